@@ -1,0 +1,4 @@
+pub mod Storage
+pub mod Reading
+pub mod Shown
+pub mod Due

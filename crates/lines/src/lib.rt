@@ -1,0 +1,168 @@
+// A text read line by line. The reader's state is a cursor by value; the lines read are kept in a lent list of numbers,
+// 25 cells for each line: first how many numbers the line has, then its 24 numbers.
+ghost use mathlib.Core.Path.{_≡_};
+ghost use Prim.Native.Nat.{_+_, _^_, _≤_, _<_};
+ghost use lib.ListN.{length, getD};
+ghost use Rattle.lines.specs.Lines.{Reading, lineRead, readLine};
+ghost use Rattle.lines.specs.Cells.{lineIn, withLine, Shows};
+ghost use Rattle.lines.specs.Refusals.{textRefusal};
+use text::Line;
+use text::Row;
+
+// Why a text is refused, with the line: document 01's numbers 1 to 4.
+pub enum TextRefusal {
+    // not key=value, or not the key due
+    NotDue(u64),
+    // value malformed or out of range
+    BadValue(u64),
+    // offer order broken
+    OfferOrder(u64),
+    // over 65,536 bytes, a start past its end, or it ends inside a line or before its `end` line
+    TextEnds(u64),
+}
+
+// What a reader answers: the place after what was read, or why the text is refused.
+pub enum ReadAnswer {
+    Read(u64),
+    Refused(TextRefusal),
+}
+
+// A line, and the place after it.
+pub struct LineRead {
+    pub line: Line,
+    pub next: usize,
+}
+
+// How far a text is read: the refusal's number or 0, the place of the line due, and how many lines were read before it.
+pub struct Cursor {
+    pub refusal: u64,
+    pub at: usize,
+    pub lines: usize,
+}
+
+pub fn text_refusal(number: u64, line: u64) -> TextRefusal
+    ensures { λ r. ⌜ r ≡ textRefusal number line ⌝ }
+{
+    if number == 1 {
+        return TextRefusal::NotDue(line);
+    }
+    if number == 2 {
+        return TextRefusal::BadValue(line);
+    }
+    if number == 3 {
+        return TextRefusal::OfferOrder(line);
+    }
+    TextRefusal::TextEnds(line)
+}
+
+// The line at a place of a text, by its row.
+pub fn line_at(text: &[u8], at: usize, row: Row) -> LineRead
+    ensures { λ r. ⌜ r ≡ lineRead (now (text .entry)) at row ⌝ }
+{
+    let e = text::find(text, at, b'\n', b'\n');
+    if text.len() <= e {
+        return LineRead {
+            line: text::refused_line(4),
+            next: at,
+        };
+    }
+    let whole = &text[at..e];
+    let key = row.key;
+    if text::key_is(whole, key) {
+        let l = text::read_value(text::value_of(whole), row);
+        if l.code == 0 {
+            return LineRead {
+                line: l,
+                next: e + 1,
+            };
+        }
+        return LineRead { line: l, next: at };
+    }
+    LineRead {
+        line: text::refused_line(1),
+        next: at,
+    }
+}
+
+// Stores the numbers of line k, where there is room for them.
+fn keep(cells: &mut [u64], k: usize, count: usize, number: [u64; 24])
+    requires { ⌜ k < 2 ^ 32 ⌝ }
+    ensures { λ r. ⌜ now (cells .exit) ≡ withLine (now (cells .entry)) k count number ⌝ }
+    ensures { λ r. ⌜ length number ≡ 24 ⌝ }
+{
+    let at = 25 * k;
+    if cells.len() < at + 25 {
+        return;
+    }
+    let first = at + 1;
+    let mut i: usize = 0;
+    while i < 24 {
+        cells[first + i] = number[i];
+        i += 1;
+    }
+    cells[at] = count as u64;
+}
+
+// How many numbers line k has.
+pub fn count_at(cells: &[u64], k: usize) -> usize
+    requires { ⌜ k < 2 ^ 32 ⌝ }
+    ensures { λ r. ⌜ r ≡ lineIn (now (cells .entry)) k .count ⌝ }
+{
+    let at = 25 * k;
+    if at < cells.len() {
+        return cells[at] as usize;
+    }
+    0
+}
+
+// Number i of line k.
+pub fn number_at(cells: &[u64], k: usize, i: usize) -> u64
+    requires { ⌜ (k < 2 ^ 32) × (i < 24) ⌝ }
+    ensures { λ r. ⌜ r ≡ getD (lineIn (now (cells .entry)) k .number) i 0 ⌝ }
+{
+    let at = 25 * k + 1 + i;
+    if at < cells.len() {
+        return cells[at];
+    }
+    0
+}
+
+pub fn start() -> Cursor
+    ensures { λ r. ⌜ r ≡ record { refusal = 0; at = 0; lines = 0 } ⌝ }
+{
+    Cursor {
+        refusal: 0,
+        at: 0,
+        lines: 0,
+    }
+}
+
+// The line due, by its row; nothing where the text is refused already.
+pub fn read_line(text: &[u8], row: Row, c: Cursor, cells: &mut [u64]) -> Cursor
+    requires { ⌜ c .lines < 2 ^ 32 ⌝ }
+    ensures { λ r. ⌜ ((s : Reading) → Shows (now (cells .entry)) c s → Shows (now (cells .exit)) r (readLine (now (text .entry)) row s)) ⌝ }
+    ensures { λ r. ⌜ r .lines ≤ c .lines + 1 ⌝ }
+{
+    if c.refusal != 0 {
+        return c;
+    }
+    let at = c.at;
+    let k = c.lines;
+    let read = line_at(text, at, row);
+    let line = read.line;
+    let next = read.next;
+    if line.code != 0 {
+        return Cursor {
+            refusal: line.code,
+            at: at,
+            lines: k,
+        };
+    }
+    let number = line.number;
+    keep(cells, k, line.count, number);
+    Cursor {
+        refusal: 0,
+        at: next,
+        lines: k + 1,
+    }
+}

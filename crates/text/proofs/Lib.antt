@@ -1,0 +1,4 @@
+pub mod Walk
+pub mod Values
+pub mod Fits
+pub mod Codes

@@ -1,0 +1,391 @@
+// One line key=value of a text: its key, the part that is its value, decimal numbers, and the value read by a row,
+// which says what one kind of line may be.
+ghost use mathlib.Core.Path.{_≡_};
+ghost use Prim.Native.Nat.{ℕ, zero, suc, _+_, _-_, _/_, _^_, _≤_, _<_};
+ghost use lib.ListN.{length, take, drop, getD, set};
+ghost use Rattle.text.specs.Text.{seek, valuePart, wordIs, keyIs, leadingZero, atLeast, numberIn};
+ghost use Rattle.text.specs.Rows.{word, numberRow, blankRow, wordRow, noLine, markDue, partNext, valueOf};
+
+pub enum Number {
+    Value(u64),
+    Malformed,
+}
+
+// One kind of line. A key or a word ends at its '='.
+pub struct Row {
+    pub key: [u8; 10],
+    // what the value must be, where there are no parts
+    pub word: [u8; 10],
+    // 1: the value may be blank
+    pub blank: u64,
+    // 1: pairs whose first numbers rise and whose second never fall
+    pub order: u64,
+    // numbers in a group, joined by ':'; groups are joined by ','
+    pub parts: usize,
+    // numbers in the value, at most
+    pub most: u8,
+    pub low: [u64; 4],
+    pub high: [u64; 4],
+}
+
+// What stands in a line: its numbers, none where the value is blank or a word. The code is 0, or the refusal.
+pub struct Line {
+    pub code: u64,
+    pub count: usize,
+    pub number: [u64; 24],
+}
+
+// key=number, from low to high.
+pub fn number_row(key: [u8; 10], low: u64, high: u64) -> Row
+    ensures { λ r. ⌜ r ≡ numberRow key low high ⌝ }
+{
+    Row {
+        key: key,
+        word: *b"==========",
+        blank: 0,
+        order: 0,
+        parts: 1,
+        most: 1,
+        low: [low, 0, 0, 0],
+        high: [high, 0, 0, 0],
+    }
+}
+
+// key=number, from low to high, or key= with nothing after it.
+pub fn blank_row(key: [u8; 10], low: u64, high: u64) -> Row
+    ensures { λ r. ⌜ r ≡ blankRow key low high ⌝ }
+{
+    Row {
+        key: key,
+        word: *b"==========",
+        blank: 1,
+        order: 0,
+        parts: 1,
+        most: 1,
+        low: [low, 0, 0, 0],
+        high: [high, 0, 0, 0],
+    }
+}
+
+// key=word.
+pub fn word_row(key: [u8; 10], word: [u8; 10]) -> Row
+    ensures { λ r. ⌜ r ≡ wordRow key word ⌝ }
+{
+    Row {
+        key: key,
+        word: word,
+        blank: 0,
+        order: 0,
+        parts: 0,
+        most: 0,
+        low: [0, 0, 0, 0],
+        high: [0, 0, 0, 0],
+    }
+}
+
+// A line that holds no number.
+pub fn no_line() -> Line
+    ensures { λ r. ⌜ r ≡ noLine 0 ⌝ }
+{
+    Line {
+        code: 0,
+        count: 0,
+        number: [0u64; 24],
+    }
+}
+
+// A line that is refused.
+pub fn refused_line(code: u64) -> Line
+    ensures { λ r. ⌜ r ≡ noLine code ⌝ }
+{
+    Line {
+        code: code,
+        count: 0,
+        number: [0u64; 24],
+    }
+}
+
+// The first place at or after `from` of one of two marks, or the end.
+pub fn find(s: &[u8], from: usize, a: u8, b: u8) -> usize
+    ensures { λ r. ⌜ r ≡ from + seek a b (drop from (now (s .entry))) ⌝ }
+{
+    let mut i = from;
+    while i < s.len() {
+        let x = s[i];
+        if x == a {
+            return i;
+        }
+        if x == b {
+            return i;
+        }
+        i += 1;
+    }
+    i
+}
+
+// The part of the line after its first '='
+pub fn value_of(line: &[u8]) -> &[u8]
+    ensures { λ r. ⌜ now r ≡ valuePart (now (line .entry)) ⌝ }
+{
+    let i = find(line, 0, b'=', b'=');
+    if i < line.len() {
+        return &line[i + 1..];
+    }
+    &line[line.len()..]
+}
+
+// Whether a text is the word that stands before a '='.
+pub fn word_is(text: &[u8], word: [u8; 10]) -> bool
+    ensures { λ r. ⌜ r ≡ wordIs (now (text .entry)) word ⌝ }
+{
+    let mut i = 0;
+    while i < 10 {
+        let w = word[i];
+        if w == b'=' {
+            if text.len() <= i {
+                return true;
+            }
+            return false;
+        }
+        if text.len() <= i {
+            return false;
+        }
+        if text[i] != w {
+            return false;
+        }
+        i += 1;
+    }
+    false
+}
+
+pub fn key_is(line: &[u8], key: [u8; 10]) -> bool
+    ensures { λ r. ⌜ r ≡ keyIs (now (line .entry)) key ⌝ }
+{
+    let i = find(line, 0, b'=', b'=');
+    if i < line.len() {
+        return word_is(&line[..i], key);
+    }
+    false
+}
+
+fn wide(x: u8) -> u64
+    ensures { λ r. ⌜ r ≡ x ⌝ }
+{
+    x as u64
+}
+
+fn digits(s: &[u8], high: u64) -> Number
+    ensures { λ r. ⌜ r ≡ Rattle.text.specs.Text.digits high 0 (now (s .entry)) ⌝ }
+{
+    let mut n: u64 = 0;
+    let mut i: usize = 0;
+    while i < s.len() {
+        let x = s[i];
+        if x < b'0' {
+            return Number::Malformed;
+        }
+        if b'9' < x {
+            return Number::Malformed;
+        }
+        let d = wide(x - 48);
+        if high < d {
+            return Number::Malformed;
+        }
+        if (high - d) / 10 < n {
+            return Number::Malformed;
+        }
+        n = n * 10 + d;
+        i += 1;
+    }
+    Number::Value(n)
+}
+
+fn leading_zero(s: &[u8]) -> bool
+    ensures { λ r. ⌜ r ≡ leadingZero (now (s .entry)) ⌝ }
+{
+    if s.len() < 2 {
+        return false;
+    }
+    s[0] == b'0'
+}
+
+fn at_least(n: Number, low: u64) -> Number
+    ensures { λ r. ⌜ r ≡ atLeast low n ⌝ }
+{
+    match n {
+        Number::Value(x) => {
+            if x < low {
+                Number::Malformed
+            } else {
+                Number::Value(x)
+            }
+        }
+        Number::Malformed => Number::Malformed,
+    }
+}
+
+// A decimal number from low to high, with no leading zero.
+pub fn number_in(s: &[u8], low: u64, high: u64) -> Number
+    ensures { λ r. ⌜ r ≡ numberIn low high (now (s .entry)) ⌝ }
+{
+    if s.len() == 0 {
+        return Number::Malformed;
+    }
+    if leading_zero(s) {
+        return Number::Malformed;
+    }
+    at_least(digits(s, high), low)
+}
+
+fn bound(limits: [u64; 4], p: usize) -> u64
+    ensures { λ r. ⌜ r ≡ getD limits p 0 ⌝ }
+{
+    if p < 4 {
+        return limits[p];
+    }
+    0
+}
+
+fn mark_due(parts: usize, p: usize) -> u8
+    requires { ⌜ p < 1000 ⌝ }
+    ensures { λ r. ⌜ r ≡ markDue parts p ⌝ }
+{
+    if p + 1 == parts {
+        return b',';
+    }
+    b':'
+}
+
+fn part_next(parts: usize, p: usize) -> usize
+    requires { ⌜ p < 1000 ⌝ }
+    ensures { λ r. ⌜ r ≡ partNext parts p ⌝ }
+{
+    if p + 1 == parts {
+        return 0;
+    }
+    p + 1
+}
+
+fn stored(number: [u64; 24], at: usize, n: u64) -> [u64; 24]
+    ensures { λ r. ⌜ r ≡ set number at n ⌝ }
+{
+    let mut new = number;
+    if at < 24 {
+        new[at] = n;
+        return new;
+    }
+    new
+}
+
+// One number more, where there is room for it.
+fn added(l: Line, n: u64) -> Line
+    requires { ⌜ l .count < 1000 ⌝ }
+    ensures { λ r. ⌜ r ≡ Rattle.text.specs.Rows.added l n ⌝ }
+{
+    let at = l.count;
+    let old = l.number;
+    Line {
+        code: l.code,
+        count: at + 1,
+        number: stored(old, at, n),
+    }
+}
+
+// The numbers of a value: a group's numbers are joined by ':', groups by ','.
+fn numbers(value: &[u8], row: Row) -> Line
+    ensures { λ r. ⌜ r ≡ Rattle.text.specs.Rows.numbers (row .low) (row .high) (row .parts) (row .most) 0 (now (value .entry)) (noLine 0) ⌝ }
+{
+    let low = row.low;
+    let high = row.high;
+    let parts = row.parts;
+    let mut l = no_line();
+    let mut left = row.most as usize;
+    let mut from = 0;
+    let mut p = 0;
+    while 0 < left {
+        let e = find(value, from, b':', b',');
+        let Number::Value(n) = number_in(&value[from..e], bound(low, p), bound(high, p)) else {
+            return refused_line(2);
+        };
+        if value.len() <= e {
+            if p + 1 == parts {
+                return added(l, n);
+            }
+            return refused_line(2);
+        }
+        if value[e] != mark_due(parts, p) {
+            return refused_line(2);
+        }
+        l = added(l, n);
+        p = part_next(parts, p);
+        from = e + 1;
+        left -= 1;
+    }
+    refused_line(2)
+}
+
+fn element(number: [u64; 24], at: usize) -> u64
+    ensures { λ r. ⌜ r ≡ getD number at 0 ⌝ }
+{
+    if at < 24 {
+        return number[at];
+    }
+    0
+}
+
+// Whether the first numbers of the pairs rise and the second never fall.
+fn rising(number: [u64; 24], count: usize) -> bool
+    ensures { λ r. ⌜ r ≡ Rattle.text.specs.Rows.rising number 0 (count / 2) 0 0 ⌝ }
+{
+    let mut left = count / 2;
+    let mut at = 0;
+    let mut q: u64 = 0;
+    let mut p: u64 = 0;
+    while 0 < left {
+        let x = element(number, at);
+        let y = element(number, at + 1);
+        if x <= q {
+            return false;
+        }
+        if y < p {
+            return false;
+        }
+        q = x;
+        p = y;
+        at += 2;
+        left -= 1;
+    }
+    true
+}
+
+// A value by its row.
+pub fn read_value(value: &[u8], row: Row) -> Line
+    ensures { λ r. ⌜ r ≡ valueOf row (now (value .entry)) ⌝ }
+{
+    if row.parts == 0 {
+        let word = row.word;
+        if word_is(value, word) {
+            return no_line();
+        }
+        return refused_line(2);
+    }
+    if value.len() == 0 {
+        if row.blank == 1 {
+            return no_line();
+        }
+        return refused_line(2);
+    }
+    let l = numbers(value, row);
+    if l.code != 0 {
+        return l;
+    }
+    if row.order == 1 {
+        let number = l.number;
+        let count = l.count;
+        if rising(number, count) {
+            return l;
+        }
+        return refused_line(3);
+    }
+    l
+}
