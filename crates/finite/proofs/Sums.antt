@@ -3,7 +3,7 @@
 use mathlib.Core.Path.{_≡_, refl, sym, subst, ap}
 use mathlib.Core.Logic.{⊎-elim}
 use Prim.Native.Nat.{ℕ, zero, suc, _+_, _*_, _-_, _≤_, _<_}
-use native.Mathlib.Nat.{add-zero, add-suc, mul-zero, mul-add, add-mul, zero-mul, eq-or-lt-of-le, le-of-suc-le-suc, not-suc-le-zero}
+use native.Mathlib.Nat.{add-zero, add-suc, mul-zero, mul-add, add-mul, suc-mul, zero-mul, eq-or-lt-of-le, le-of-suc-le-suc, not-suc-le-zero}
 use native.Mathlib.Numerals.{add-one}
 use native.Mathlib.Omega.{arith}
 use Rattle.finite.specs.Finite.{sum}
@@ -67,12 +67,36 @@ unfolding sum
 sum-grows n zero f = rw add-zero (omega arith)
 sum-grows n (suc d) f = rw add-suc (omega (arith, sum-grows n d f))
 
+pub sum-mono : (m n : ℕ) (f : ℕ → ℕ) → m ≤ n → sum m f ≤ sum n f
+sum-mono m n f l =
+    let e : m + (n - m) ≡ n = omega arith in
+    subst (λ (k : ℕ). sum m f ≤ sum k f) e (sum-grows m (n - m) f)
+
 pub sum-next : (n : ℕ) (f : ℕ → ℕ) → sum (n + 1) f ≡ sum n f + f n
 unfolding sum
 sum-next n f = ap (λ (k : ℕ). sum k f) (add-one n)
 
 pub sum-has : (n i : ℕ) (f : ℕ → ℕ) → i < n → sum i f + f i ≤ sum n f
-sum-has n i f l =
-    let e : i + 1 + (n - (i + 1)) ≡ n = omega arith in
-    let g : sum (i + 1) f ≤ sum n f = subst (λ (k : ℕ). sum (i + 1) f ≤ sum k f) e (sum-grows (i + 1) (n - (i + 1)) f) in
-    omega (arith, sum-next i f)
+sum-has n i f l = omega (arith, sum-mono (i + 1) n f (omega arith), sum-next i f)
+
+-- the parts from m to n: each at most p, or each p
+module _ (m n p : ℕ) (f : ℕ → ℕ) where
+  pub sum-most : m ≤ n → ((u : ℕ) → m ≤ u → u < n → f u ≤ p) → sum n f ≤ sum m f + (n - m) * p
+  unfolding sum
+  sum-most l h =
+      let e : m + (n - m) ≡ n = omega arith in
+      subst (λ (k : ℕ). sum k f ≤ sum m f + (n - m) * p) e (go (n - m) (omega arith))
+    where
+      go : (d : ℕ) → m + d ≤ n → sum (m + d) f ≤ sum m f + d * p
+      go zero k = rw (add-zero, zero-mul) (omega arith)
+      go (suc d) k = rw (add-suc, suc-mul) (omega (arith, go d (omega arith), h (m + d) (omega arith) (omega arith)))
+
+  pub sum-flat : m ≤ n → ((u : ℕ) → m ≤ u → u < n → f u ≡ p) → sum n f ≡ sum m f + (n - m) * p
+  unfolding sum
+  sum-flat l h =
+      let e : m + (n - m) ≡ n = omega arith in
+      subst (λ (k : ℕ). sum k f ≡ sum m f + (n - m) * p) e (go (n - m) (omega arith))
+    where
+      go : (d : ℕ) → m + d ≤ n → sum (m + d) f ≡ sum m f + d * p
+      go zero k = rw (add-zero, zero-mul) (omega arith)
+      go (suc d) k = rw (add-suc, suc-mul) (omega (arith, go d (omega arith), h (m + d) (omega arith) (omega arith)))
