@@ -5,7 +5,7 @@ ghost use Prim.Native.Nat.{_+_, _^_, _≤_, _<_};
 ghost use lib.ListN.{length, getD};
 ghost use Rattle.lines.specs.Lines.{Reading, lineRead, readLine};
 ghost use Rattle.lines.specs.Cells.{lineIn, withLine, Shows};
-ghost use Rattle.lines.specs.Refusals.{textRefusal};
+ghost use Rattle.lines.specs.Refusals.{textRefusal, badStart, answerOf};
 use text::Line;
 use text::Row;
 
@@ -53,6 +53,27 @@ pub fn text_refusal(number: u64, line: u64) -> TextRefusal
         return TextRefusal::OfferOrder(line);
     }
     TextRefusal::TextEnds(line)
+}
+
+// Whether a text is too long or the start is past its end.
+pub fn bad_start(text: &[u8], start: u64) -> bool
+    ensures { λ r. ⌜ r ≡ badStart (now (text .entry)) start ⌝ }
+{
+    if 65536 < text.len() {
+        return true;
+    }
+    (text.len() as u64) < start
+}
+
+// The answer of a reading that began at `start`.
+pub fn answer_of(start: usize, c: Cursor) -> ReadAnswer
+    requires { ⌜ (start + c .at < 2 ^ 63) × (c .lines < 2 ^ 63) ⌝ }
+    ensures { λ r. ⌜ ((s : Reading) → c .refusal ≡ s .refusal → c .at ≡ s .at → c .lines ≡ length (s .lines) → r ≡ answerOf start s) ⌝ }
+{
+    if c.refusal == 0 {
+        return ReadAnswer::Read((start + c.at) as u64);
+    }
+    ReadAnswer::Refused(text_refusal(c.refusal, c.lines as u64 + 1))
 }
 
 // The line at a place of a text, by its row.
