@@ -32,7 +32,7 @@ pub fn no_offer() -> Offer
 }
 
 // Whether an offer may have so many steps.
-pub fn steps_allowed(steps: usize) -> bool
+fn steps_allowed(steps: usize) -> bool
     ensures { λ r. ⌜ r ≡ stepsAllowed steps ⌝ }
 {
     if steps < 1 {
@@ -42,7 +42,7 @@ pub fn steps_allowed(steps: usize) -> bool
 }
 
 // Whether a step's quantity and price are in their ranges.
-pub fn in_range(quantity: HubKwh, price: u64) -> bool
+fn in_range(quantity: HubKwh, price: u64) -> bool
     ensures { λ r. ⌜ r ≡ inRange quantity price ⌝ }
 {
     if quantity.0 < 1 {
@@ -55,7 +55,7 @@ pub fn in_range(quantity: HubKwh, price: u64) -> bool
 }
 
 // Whether a step may be followed by the next one: its quantity is less, its price no more.
-pub fn in_order(quantity: HubKwh, price: u64, next_quantity: HubKwh, next_price: u64) -> bool
+fn in_order(quantity: HubKwh, price: u64, next_quantity: HubKwh, next_price: u64) -> bool
     ensures { λ r. ⌜ r ≡ inOrder quantity price «next_quantity» «next_price» ⌝ }
 {
     if quantity.0 < next_quantity.0 {
