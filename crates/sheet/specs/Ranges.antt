@@ -1,7 +1,7 @@
 -- 01, refusal 9: whether a sheet's values, of units only the plant's, keep their ranges and orders.
 use Prim.Native.Nat.{ℕ}
 use mathlib.Core.Bool.{Bool, true, cond, _&&_}
-use mathlib.Core.List.{[]}
+use mathlib.Core.List.{List, []}
 use lib.Dec.{leb}
 use lib.ListN.{getD}
 use Rattle.finite.specs.Finite.{every}
@@ -21,8 +21,8 @@ abbrev pub pastUnit : UnitSheet
 pastUnit = record { own = 0; nominal = record { 0 = 0 }; monthly = record { 0 = 0 }; offers = [] }
 
 -- the unit of place k, and its offer of an hour counted from 0
-abbrev pub unitSheet : Sheet → ℕ → UnitSheet
-unitSheet s k = getD (s .unit) k pastUnit
+abbrev pub unitAt : List UnitSheet → ℕ → UnitSheet
+unitAt unit k = getD unit k pastUnit
 
 abbrev pub offerAt : UnitSheet → ℕ → Offer
 offerAt u h = getD (u .offers) h pastOffer
@@ -32,17 +32,20 @@ unitHolds u =
     (leb (u .own) mostOwn && between 1 (u .nominal .0) mostKwh)
     && (leb (u .monthly .0) mostKwh && every 24 (λ h. offerHolds (offerAt u h)))
 
-abbrev pub placeHolds : Sheet → ℕ → Bool
-placeHolds s k = cond (memberAt (s .units) k) (unitHolds (unitSheet s k)) true
+-- "(of units, only the plant's)"
+abbrev pub placeHolds : ℕ → List UnitSheet → ℕ → Bool
+placeHolds units unit k = cond (memberAt units k) (unitHolds (unitAt unit k)) true
 
 abbrev pub dateHolds : ℕ → ℕ → Bool
 dateHolds month day = between 1 month lastMonth && between 1 day (lastDay month)
 
-abbrev pub ratesHold : Sheet → Bool
-ratesHold s = (leb (s .loss) mostLoss && leb (s .ceiling) mostCeiling) && leb (s .bar) mostBar
+abbrev pub ratesHold : ℕ → ℕ → ℕ → Bool
+ratesHold loss ceiling bar = (leb loss mostLoss && leb ceiling mostCeiling) && leb bar mostBar
+
+abbrev pub cpfHolds : List ℕ → Bool
+cpfHolds cpf = every 24 (λ h. leb (getD cpf h 0) mostCpf)
 
 unfoldable pub sheetHolds : Sheet → Bool
 sheetHolds s =
-    (dateHolds (s .month) (s .day) && ratesHold s)
-    && ((every 24 (λ h. leb (getD (s .cpf) h 0) mostCpf) && between 1 (s .units) mostUnits)
-    && every 8 (placeHolds s))
+    (dateHolds (s .month) (s .day) && ratesHold (s .loss) (s .ceiling) (s .bar))
+    && ((cpfHolds (s .cpf) && between 1 (s .units) mostUnits) && every 8 (placeHolds (s .units) (s .unit)))

@@ -4,13 +4,14 @@ ghost use mathlib.Core.List.{List};
 ghost use Prim.Native.Nat.{ℕ, _+_, _^_, _≤_, _<_};
 ghost use lib.ListN.{length, getD};
 ghost use lib.Count.{ones};
+ghost use Rattle.offer.specs.Offer.{offerHolds};
 ghost use Rattle.finite.specs.Finite.{every};
 ghost use Rattle.lines.specs.Lines.{Reading, readBy};
 ghost use Rattle.lines.specs.Cells.{lineIn, Shows};
-ghost use Rattle.sheet.specs.Limits.{lastDay, mostCpf};
+ghost use Rattle.sheet.specs.Limits.{lastDay};
 ghost use Rattle.sheet.specs.Rows.{headRows, unitRows, offerRow, endRow, rowAt, dueRow, readLines};
 ghost use Rattle.sheet.specs.Day.{noUnit, noSheet, offerBy, unitBy, placeBy, sheetBy, readSheet};
-ghost use Rattle.sheet.specs.Ranges.{offerAt, unitHolds, placeHolds, dateHolds, ratesHold, sheetHolds};
+ghost use Rattle.sheet.specs.Ranges.{offerAt, unitHolds, placeHolds, dateHolds, ratesHold, cpfHolds, sheetHolds};
 
 use energy::GrossKwh;
 use energy::HubKwh;
@@ -316,7 +317,7 @@ pub fn read_sheet(text: &[u8], start: u64) -> SheetRead
 
 // Whether a unit's values keep their ranges and orders.
 fn offers_hold(u: UnitSheet) -> bool
-    ensures { λ r. ⌜ r ≡ every 24 (λ h. Rattle.offer.specs.Offer.offerHolds (offerAt u h)) ⌝ }
+    ensures { λ r. ⌜ r ≡ every 24 (λ h. offerHolds (offerAt u h)) ⌝ }
 {
     let mut h: usize = 0;
     while h < 24 {
@@ -348,24 +349,17 @@ fn unit_holds(u: UnitSheet) -> bool
     offers_hold(u)
 }
 
-fn place_holds(sheet: Sheet, k: usize) -> bool
-    requires { ⌜ k < 8 ⌝ }
-    ensures { λ r. ⌜ r ≡ placeHolds sheet k ⌝ }
-{
-    if units::member_at(sheet.units, k) {
-        let u = sheet.unit[k];
-        return unit_holds(u);
-    }
-    true
-}
-
-fn units_hold(sheet: Sheet) -> bool
-    ensures { λ r. ⌜ r ≡ every 8 (placeHolds sheet) ⌝ }
+// Whether the plant's units keep their ranges and orders.
+fn units_hold(units: u64, unit: [UnitSheet; 8]) -> bool
+    ensures { λ r. ⌜ r ≡ every 8 (placeHolds units unit) ⌝ }
 {
     let mut k: usize = 0;
     while k < 8 {
-        if !place_holds(sheet, k) {
-            return false;
+        if units::member_at(units, k) {
+            let u = unit[k];
+            if !unit_holds(u) {
+                return false;
+            }
         }
         k += 1;
     }
@@ -388,7 +382,7 @@ fn date_holds(month: u64, day: u64) -> bool
 }
 
 fn cpf_holds(cpf: [u64; 24]) -> bool
-    ensures { λ r. ⌜ r ≡ every 24 (λ h. lib.Dec.leb (getD cpf h 0) mostCpf) ⌝ }
+    ensures { λ r. ⌜ r ≡ cpfHolds cpf ⌝ }
 {
     let mut h: usize = 0;
     while h < 24 {
@@ -400,16 +394,16 @@ fn cpf_holds(cpf: [u64; 24]) -> bool
     true
 }
 
-fn rates_hold(sheet: Sheet) -> bool
-    ensures { λ r. ⌜ r ≡ ratesHold sheet ⌝ }
+fn rates_hold(loss: u64, ceiling: u64, bar: u64) -> bool
+    ensures { λ r. ⌜ r ≡ ratesHold loss ceiling bar ⌝ }
 {
-    if sheet.loss > 2000 {
+    if loss > 2000 {
         return false;
     }
-    if sheet.ceiling > 10000000 {
+    if ceiling > 10000000 {
         return false;
     }
-    sheet.bar <= 1000000
+    bar <= 1000000
 }
 
 // Whether a sheet keeps its ranges and orders: refusal 9 where it does not.
@@ -419,7 +413,7 @@ pub fn sheet_holds(sheet: Sheet) -> bool
     if !date_holds(sheet.month, sheet.day) {
         return false;
     }
-    if !rates_hold(sheet) {
+    if !rates_hold(sheet.loss, sheet.ceiling, sheet.bar) {
         return false;
     }
     let cpf = sheet.cpf;
@@ -432,5 +426,6 @@ pub fn sheet_holds(sheet: Sheet) -> bool
     if sheet.units > 255 {
         return false;
     }
-    units_hold(sheet)
+    let unit = sheet.unit;
+    units_hold(sheet.units, unit)
 }
