@@ -3,6 +3,7 @@ use Prim.Native.Nat.{ℕ, _-_, _≤_}
 use mathlib.Core.Path.{_≡_, refl, ap, sym, _∙_}
 use mathlib.Core.Bool.{Bool, true}
 use native.Mathlib.Omega.{arith}
+use borrow.Author.Tests.{not-true, not-false}
 use Rattle.finite.specs.Finite.{every}
 use Rattle.finite.proofs.Tests.{every-next, every-fails}
 use Rattle.offer.specs.Offer.{offerHolds}
@@ -31,7 +32,7 @@ offer-holds-requires : tie.Need-offer-holds-requires Inv-loop μ-loop
 offer-holds-requires c κs = search needs
 
 returns : tie.Need-returns Inv-loop μ-loop
-returns c = sym (every-fails 24 (c .before .before .before .before .loop .h) (λ h. offerHolds (offerAt (c .before .before .before .before .before .args .t1) h)) (omega arith) (sym (c .before .offer-holds .ensures) ∙ c .if1 .taken))
+returns c = sym (every-fails 24 (c .before .before .before .before .loop .h) (λ h. offerHolds (offerAt (c .before .before .before .before .before .args .t1) h)) (omega arith) (sym (c .before .offer-holds .ensures) ∙ not-true _ (c .if1 .taken)))
 
 add-h : tie.Need-add-h Inv-loop μ-loop
 add-h c = search needs
@@ -42,7 +43,7 @@ loop-less c = search needs
 loop-again : tie.Need-loop-again Inv-loop μ-loop
 loop-again c = 
     let l = c .before .before .before .before .loop in
-    (omega arith, every-next (l .h) (λ h. offerHolds (offerAt (c .before .before .before .before .before .args .t1) h)) (l .inv .1) (sym (c .before .offer-holds .ensures) ∙ c .if1 .left))
+    (omega arith, every-next (l .h) (λ h. offerHolds (offerAt (c .before .before .before .before .before .args .t1) h)) (l .inv .1) (sym (c .before .offer-holds .ensures) ∙ not-false _ (c .if1 .left)))
 
 returns-2 : tie.Need-returns-2 Inv-loop μ-loop
 returns-2 c = 

@@ -1,33 +1,32 @@
+-- Each test is a part of the definition.
+use borrow.Author.Tests.{lt-leb, le-leb}
+use Rattle.sheet.specs.Ranges.{unitHolds}
 use borrow.Author.Needs.{needs}
 use Rattle.sheet.proofs.unit_holds.Statement.{statement}
 use Rattle.sheet.proofs.unit_holds.Tie as tie
-use Rattle.sheet.proofs.unit_holds.Reads as reads
-use Rattle.sheet.proofs.unit_holds.Lts as lts
-use Rattle.sheet.proofs.offers_hold.Reads as offers-hold-reads
 
--- src/lib.rt:337:9
 returns : tie.Need-returns
-returns c = search needs
+unfolding unitHolds
+returns c = simp (lt-leb _ _ (c .if1 .taken))
 
--- src/lib.rt:341:9
 returns-2 : tie.Need-returns-2
-returns-2 c = search needs
+unfolding unitHolds
+returns-2 c = simp (le-leb _ _ (c .before .if1 .left), lt-leb _ _ (c .if2 .taken))
 
--- src/lib.rt:344:9
 returns-3 : tie.Need-returns-3
-returns-3 c = search needs
+unfolding unitHolds
+returns-3 c = simp (le-leb _ _ (c .before .before .if1 .left), le-leb _ _ (c .before .if2 .left), lt-leb _ _ (c .if3 .taken))
 
--- src/lib.rt:347:9
 returns-4 : tie.Need-returns-4
-returns-4 c = search needs
+unfolding unitHolds
+returns-4 c = simp (le-leb _ _ (c .before .before .before .before .if1 .left), le-leb _ _ (c .before .before .before .if2 .left), le-leb _ _ (c .before .before .if3 .left), lt-leb _ _ (c .if4 .taken))
 
--- src/lib.rt:349:5
 offers-hold-requires : tie.Need-offers-hold-requires
 offers-hold-requires c κs = search needs
 
--- src/lib.rt:333:1
 returns-5 : tie.Need-returns-5
-returns-5 c = search needs
+unfolding unitHolds
+returns-5 c = simp (le-leb _ _ (c .before .before .before .before .before .if1 .left), le-leb _ _ (c .before .before .before .before .if2 .left), le-leb _ _ (c .before .before .before .if3 .left), le-leb _ _ (c .before .if4 .left)) (c .offers-hold .ensures)
 
 pub unit-holds-spec : {M : Type 1} → statement M
 unit-holds-spec =
