@@ -12,6 +12,7 @@ use Rattle.energy.specs.declared.HubKwh.{HubKwh}
 use Rattle.offer.specs.declared.Offer.{Offer}
 use Rattle.offer.specs.Offer.{quantityAt, stepPrice, stepsAllowed, inRange, stepInRange, inOrder, stepInOrder, offerHolds, lastQuantity}
 
+-- what an offer that passes its test keeps
 pub record Holds (o : Offer) : Type 0 where
   pub least : 1 ≤ o .steps
   pub most : o .steps ≤ 10
