@@ -33,8 +33,11 @@ unitHolds u =
     && (leb (u .monthly .0) mostKwh && every 24 (λ h. offerHolds (offerAt u h)))
 
 -- "(of units, only the plant's)"
-abbrev pub placeHolds : ℕ → List UnitSheet → ℕ → Bool
-placeHolds units unit k = cond (memberAt units k) (unitHolds (unitAt unit k)) true
+abbrev pub placeHolds : ℕ → ℕ → UnitSheet → Bool
+placeHolds units k u = cond (memberAt units k) (unitHolds u) true
+
+abbrev pub unitsHold : ℕ → List UnitSheet → Bool
+unitsHold units unit = every 8 (λ k. placeHolds units k (unitAt unit k))
 
 abbrev pub dateHolds : ℕ → ℕ → Bool
 dateHolds month day = between 1 month lastMonth && between 1 day (lastDay month)
@@ -48,4 +51,4 @@ cpfHolds cpf = every 24 (λ h. leb (getD cpf h 0) mostCpf)
 unfoldable pub sheetHolds : Sheet → Bool
 sheetHolds s =
     (dateHolds (s .month) (s .day) && ratesHold (s .loss) (s .ceiling) (s .bar))
-    && ((cpfHolds (s .cpf) && between 1 (s .units) mostUnits) && every 8 (placeHolds (s .units) (s .unit)))
+    && ((cpfHolds (s .cpf) && between 1 (s .units) mostUnits) && unitsHold (s .units) (s .unit))

@@ -11,7 +11,7 @@ ghost use Rattle.lines.specs.Cells.{lineIn, Shows};
 ghost use Rattle.sheet.specs.Limits.{lastDay};
 ghost use Rattle.sheet.specs.Rows.{headRows, unitRows, offerRow, endRow, rowAt, dueRow, readLines};
 ghost use Rattle.sheet.specs.Day.{noUnit, noSheet, offerBy, unitBy, placeBy, sheetBy, readSheet};
-ghost use Rattle.sheet.specs.Ranges.{offerAt, unitHolds, placeHolds, dateHolds, ratesHold, cpfHolds, sheetHolds};
+ghost use Rattle.sheet.specs.Ranges.{offerAt, unitHolds, placeHolds, unitsHold, dateHolds, ratesHold, cpfHolds, sheetHolds};
 
 use energy::GrossKwh;
 use energy::HubKwh;
@@ -349,17 +349,25 @@ fn unit_holds(u: UnitSheet) -> bool
     offers_hold(u)
 }
 
+// A place outside the plant has nothing to keep.
+fn place_holds(units: u64, k: usize, u: UnitSheet) -> bool
+    ensures { λ r. ⌜ r ≡ placeHolds units k u ⌝ }
+{
+    if units::member_at(units, k) {
+        return unit_holds(u);
+    }
+    true
+}
+
 // Whether the plant's units keep their ranges and orders.
 fn units_hold(units: u64, unit: [UnitSheet; 8]) -> bool
-    ensures { λ r. ⌜ r ≡ every 8 (placeHolds units unit) ⌝ }
+    ensures { λ r. ⌜ r ≡ unitsHold units unit ⌝ }
 {
     let mut k: usize = 0;
     while k < 8 {
-        if units::member_at(units, k) {
-            let u = unit[k];
-            if !unit_holds(u) {
-                return false;
-            }
+        let u = unit[k];
+        if !place_holds(units, k, u) {
+            return false;
         }
         k += 1;
     }

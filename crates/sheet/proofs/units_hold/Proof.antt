@@ -1,56 +1,54 @@
+-- The test holds of every place passed.
+use Prim.Native.Nat.{ℕ, _-_, _≤_}
+use mathlib.Core.Path.{_≡_, refl, ap, sym, _∙_}
+use mathlib.Core.Bool.{Bool, true}
+use native.Mathlib.Omega.{arith}
+use borrow.Author.Tests.{not-true, not-false}
+use Rattle.finite.specs.Finite.{every}
+use Rattle.finite.proofs.Tests.{every-next, every-fails}
+use Rattle.sheet.specs.Ranges.{placeHolds, unitAt}
 use borrow.Author.Needs.{needs}
 use Rattle.sheet.proofs.units_hold.Statement.{statement}
 use Rattle.sheet.proofs.units_hold.Tie as tie
-use Rattle.sheet.proofs.units_hold.Reads as reads
-use Rattle.sheet.proofs.units_hold.Lts as lts
-use Rattle.sheet.proofs.unit_holds.Reads as unit-holds-reads
-use Rattle.units.proofs.member_at.Reads as member-at-reads
 
 abbrev Inv-loop : tie.InvT-loop
-Inv-loop units unit k₀ k = ?
+Inv-loop units unit k₀ k = (k ≤ 8) × (every k (λ k. placeHolds units k (unitAt unit k)) ≡ true)
 
 abbrev μ-loop : tie.MeasureT-loop
-μ-loop units unit k₀ k = ?
+μ-loop units unit k₀ k = 8 - k
 
--- src/lib.rt:357:5
 loop-holds : tie.Need-loop-holds Inv-loop μ-loop
-loop-holds c = search needs
+unfolding every
+loop-holds c = (omega arith, refl)
 
--- src/lib.rt:358:12
-member-at-requires : tie.Need-member-at-requires Inv-loop μ-loop
-member-at-requires c κs = search needs
-
--- src/lib.rt:359:21
 mul-u : tie.Need-mul-u Inv-loop μ-loop
 mul-u c = search needs
 
--- src/lib.rt:359:21
 array-copy-out-u : tie.Need-array-copy-out-u Inv-loop μ-loop
 array-copy-out-u c = search needs
 
--- src/lib.rt:360:17
-unit-holds-requires : tie.Need-unit-holds-requires Inv-loop μ-loop
-unit-holds-requires c κs = search needs
+place-holds-requires : tie.Need-place-holds-requires Inv-loop μ-loop
+place-holds-requires c κs = search needs
 
--- src/lib.rt:361:17
 returns : tie.Need-returns Inv-loop μ-loop
-returns c = search needs
+returns c = sym (every-fails 8 (c .before .before .before .before .loop .k) (λ k. placeHolds (c .before .before .before .before .before .args .units) k (unitAt (c .before .before .before .before .before .args .t2) k)) (omega arith) (sym (c .before .place-holds .ensures) ∙ not-true _ (c .if1 .taken)))
 
--- src/lib.rt:364:9
 add-k : tie.Need-add-k Inv-loop μ-loop
 add-k c = search needs
 
--- src/lib.rt:357:5
 loop-less : tie.Need-loop-less Inv-loop μ-loop
 loop-less c = search needs
 
--- src/lib.rt:357:5
 loop-again : tie.Need-loop-again Inv-loop μ-loop
-loop-again c = search needs
+loop-again c = 
+    let l = c .before .before .before .before .loop in
+    (omega arith, every-next (l .k) (λ k. placeHolds (c .before .before .before .before .before .args .units) k (unitAt (c .before .before .before .before .before .args .t2) k)) (l .inv .1) (sym (c .before .place-holds .ensures) ∙ not-false _ (c .if1 .left)))
 
--- src/lib.rt:353:1
 returns-2 : tie.Need-returns-2 Inv-loop μ-loop
-returns-2 c = search needs
+returns-2 c = 
+    let l = c .before .loop in
+    let all : l .k ≡ 8 = omega arith in
+    sym (l .inv .1) ∙ ap (λ (n : ℕ). every n (λ k. placeHolds (c .before .before .args .units) k (unitAt (c .before .before .args .t2) k))) all
 
 pub units-hold-spec : {M : Type 1} → statement M
 units-hold-spec =
@@ -59,10 +57,9 @@ units-hold-spec =
     Inv-loop
     μ-loop
     loop-holds
-    member-at-requires
     mul-u
     array-copy-out-u
-    unit-holds-requires
+    place-holds-requires
     returns
     add-k
     loop-less
