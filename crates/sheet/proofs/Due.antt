@@ -13,7 +13,7 @@ use Rattle.lines.specs.Lines.{numberOf}
 use Rattle.lines.specs.Cells.{lineIn, Kept}
 use Rattle.sheet.specs.Rows.{headRows, endRow, rowAt, dueRow}
 
-same-row : (m m' n n' k : ℕ) → (0 < k → m ≡ m') → (30 ≤ k → n ≡ n') → rowAt m n k ≡ rowAt m' n' k
+pub same-row : (m m' n n' k : ℕ) → (0 < k → m ≡ m') → (30 ≤ k → n ≡ n') → rowAt m n k ≡ rowAt m' n' k
 unfolding rowAt headRows
 same-row m m' n n' zero f g = refl
 same-row m m' n n' (suc k) f g = by (decLe 30 (suc k))

@@ -12,7 +12,6 @@ ghost use Rattle.sheet.specs.Limits.{lastDay};
 ghost use Rattle.sheet.specs.Rows.{headRows, unitRows, offerRow, endRow, rowAt, dueRow, readLines};
 ghost use Rattle.sheet.specs.Day.{noUnit, noSheet, offerBy, unitBy, placeBy, sheetBy, readSheet};
 ghost use Rattle.sheet.specs.Ranges.{offerAt, unitHolds, placeHolds, unitsHold, dateHolds, ratesHold, cpfHolds, sheetHolds};
-
 use energy::GrossKwh;
 use energy::HubKwh;
 use lines::Cursor;

@@ -41,7 +41,7 @@ loop-less : tie.Need-loop-less Inv-loop μ-loop
 loop-less c = search needs
 
 loop-again : tie.Need-loop-again Inv-loop μ-loop
-loop-again c = 
+loop-again c =
     let l = c .before .before .loop in (
       omega arith,
       simp length-set (l .inv .1),
@@ -50,7 +50,7 @@ loop-again c =
 
 returns : tie.Need-returns Inv-loop μ-loop
 unfolding sheetBy
-returns c = 
+returns c =
     let l = c .before .loop in
     let f : ℕ → ℕ = λ h. numberOf (lineIn (c .before .before .before .args .cells .now) (5 + h)) in
     let all : l .h ≡ 24 = omega arith in

@@ -26,7 +26,7 @@ number-row-requires-2 c κs = search needs
 
 returns-2 : tie.Need-returns-2
 unfolding headRows
-returns-2 c = 
+returns-2 c =
     (c .number-row2 .ensures ∙ ap (λ (n : ℕ). numberRow (word "day") 1 n) (c .before .last-day .ensures))
     ∙ ap (λ (n : ℕ). getD (headRows (c .before .before .before .before .before .before .args .month)) n endRow) (sym (c .before .before .before .before .if2 .taken))
 
@@ -62,7 +62,7 @@ number-row-requires-7 : tie.Need-number-row-requires-7
 number-row-requires-7 c κs = search needs
 
 returns-7 : tie.Need-returns-7
-returns-7 c = 
+returns-7 c =
     c .number-row7 .ensures ∙ sym (cpf-row (c .before .before .before .before .before .before .before .before .before .args .month) (c .before .before .before .before .before .before .before .before .before .args .k) (omega (arith, c .before .before .before .if6 .left, c .before .before .before .before .if5 .left, c .before .before .before .before .before .if4 .left, c .before .before .before .before .before .before .if3 .left, c .before .before .before .before .before .before .before .if2 .left, c .before .before .before .before .before .before .before .before .if1 .left)) (omega (arith, c .before .before .before .if6 .left, c .before .before .before .before .before .before .before .before .before .pre)))
 
 pub head-row-spec : {M : Type 1} → statement M

@@ -11,7 +11,7 @@ no-unit-requires : tie.Need-no-unit-requires
 no-unit-requires c κs = search needs
 
 returns : tie.Need-returns
-returns c = 
+returns c =
     ap {B = Sheet} (λ (u : UnitSheet). record { month = 0; day = 0; loss = 0; ceiling = 0; bar = 0; cpf = replicate 24 0; units = 0; unit = replicate 8 u })
     (c .no-unit .ensures)
 

@@ -14,7 +14,7 @@ use Rattle.sheet.proofs.offer_by.Statement.{statement}
 use Rattle.sheet.proofs.offer_by.Tie as tie
 
 abbrev Inv-loop : tie.InvT-loop
-Inv-loop cells k quantity₀ price₀ s₀ quantity price s = 
+Inv-loop cells k quantity₀ price₀ s₀ quantity price s =
     (s ≤ 10)
     × (length quantity ≡ 10)
     × (length price ≡ 10)
@@ -62,14 +62,14 @@ loop-less : tie.Need-loop-less Inv-loop μ-loop
 loop-less c = search needs
 
 loop-again : tie.Need-loop-again Inv-loop μ-loop
-loop-again c = 
+loop-again c =
     let l = c .before .before .before .loop in
     let g = c .before .before .before .before .before .args in (
       omega arith,
       simp length-set (l .inv .1),
       simp length-set (l .inv .2),
       filled-next {A = HubKwh} (λ s. record { 0 = getD (lineIn (g .cells .now) (g .k) .number) (2 * s) 0 }) (l .quantity) (l .s) _ (omega arith) (l .inv .3)
-      (ap {B = HubKwh} (λ (n : ℕ). record { 0 = n }) (c .before .number-at .ensures)),
+          (ap {B = HubKwh} (λ (n : ℕ). record { 0 = n }) (c .before .number-at .ensures)),
       filled-next (λ s. getD (lineIn (g .cells .now) (g .k) .number) (2 * s + 1) 0) (l .price) (l .s) _ (omega arith) (l .inv .4) (c .number-at2 .ensures),
     )
 
@@ -78,7 +78,7 @@ count-at-requires c κs = search needs
 
 returns : tie.Need-returns Inv-loop μ-loop
 unfolding offerBy
-returns c = 
+returns c =
     let l = c .before .before .loop in
     let g = c .before .before .before .before .args in
     let q : ℕ → HubKwh = λ s. record { 0 = getD (lineIn (g .cells .now) (g .k) .number) (2 * s) 0 } in

@@ -18,7 +18,7 @@ unit-by-requires : tie.Need-unit-by-requires
 unit-by-requires c κs = omega (arith, c .block-of .ensures, members-le (c .before .before .before .before .args .units) (c .before .before .before .before .args .k), c .before .before .before .before .pre)
 
 returns : tie.Need-returns
-returns c = 
+returns c =
     simp (sym (c .before .before .before .member-at .ensures) ∙ c .before .before .if1 .taken)
     (c .unit-by .ensures ∙ ap (unitBy (lineIn (c .before .before .before .before .before .args .cells .now))) (c .before .block-of .ensures))
 

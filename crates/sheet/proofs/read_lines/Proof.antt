@@ -32,7 +32,7 @@ same-length : tie.Need-same-length
 same-length c = search needs
 
 returns : tie.Need-returns
-returns c = 
+returns c =
     (head-refused (c .before .before .before .before .before .before .before .before .before .args .text .now) (c .before .before .before .before .read-more .last .1 .1 .1 .0) (c .before .before .before .before .read-more .result) (head (c .before .before .before .before)) (c .if1 .taken), omega (arith, few (c .before .before .before .before)))
 
 units-read-requires : tie.Need-units-read-requires
@@ -51,11 +51,11 @@ same-length-2 : tie.Need-same-length-2
 same-length-2 c = search needs
 
 returns-2 : tie.Need-returns-2
-returns-2 c = 
+returns-2 c =
     let h = c .before .before .before .before .before .before .before .before .before .before in
     let m = c .before .before .read-more2 in (
       head-good (c .before .before .before .before .before .before .before .before .before .before .before .before .before .before .before .args .text .now) (h .read-more .last .1 .1 .1 .0) (h .read-more .result) (head h) (c .before .before .before .before .before .before .if1 .left) (room h)
-      (c .before .before .before .before .units-read .result) (c .before .before .before .before .units-read .ensures .0) (m .last .1 .1 .1 .0) (m .result) (m .ensures .0 _ (head h)),
+          (c .before .before .before .before .units-read .result) (c .before .before .before .before .units-read .ensures .0) (m .last .1 .1 .1 .0) (m .result) (m .ensures .0 _ (head h)),
       omega (arith, m .ensures .1, few h, c .before .before .before .before .units-read .ensures .1),
     )
 

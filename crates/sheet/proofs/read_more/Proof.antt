@@ -16,7 +16,7 @@ use Rattle.sheet.proofs.read_more.Statement.{statement}
 use Rattle.sheet.proofs.read_more.Tie as tie
 
 abbrev Inv-loop : tie.InvT-loop
-Inv-loop text n cells₀ d₀ i₀ cells d i = 
+Inv-loop text n cells₀ d₀ i₀ cells d i =
     (i ≤ n)
     × (d .lines ≤ d₀ .lines + i)
     × (length cells ≡ length cells₀)
@@ -48,7 +48,7 @@ loop-less : tie.Need-loop-less Inv-loop μ-loop
 loop-less c = search needs
 
 loop-again : tie.Need-loop-again Inv-loop μ-loop
-loop-again c = 
+loop-again c =
     let l = c .before .before .before .before .before .before .before .before .before .before .loop in
     let g = c .before .before .before .before .before .before .before .before .before .before .before .before .before .args in
     let r = c .before .before .read-line in (
@@ -56,21 +56,21 @@ loop-again c =
       omega (arith, l .inv .1, r .ensures .1),
       r .kept .1 .1 .1 .0 ∙ l .inv .2,
       λ s shown. let t = readBy (g .text .now) dueRow (l .i) s in
-      let now : Shows (l .cells) (l .d) t = l .inv .3 s shown in
-      let row : c .before .before .before .before .row-at .result ≡ dueRow (t .lines) =
-      c .before .before .before .before .row-at .ensures
-      ∙ (ap (λ (m : ℕ). rowAt m (c .before .before .before .before .before .units-read .result) (l .d .lines)) (c .before .before .before .before .before .before .before .first-at .ensures)
-      ∙ (ap (λ (n : ℕ). rowAt (numberOf (lineIn (l .cells) 0)) n (l .d .lines)) (c .before .before .before .before .before .units-read .ensures .0)
-      ∙ (ap (rowAt (numberOf (lineIn (l .cells) 0)) (ones (numberOf (lineIn (l .cells) 29)))) (now .lines-is)
-      ∙ row-due (l .cells) (t .lines) (now .kept) (omega (arith, l .inv .2, c .before .before .before .before .before .before .before .before .before .before .before .before .before .pre))))) in
-      rw by-next (subst (λ (x : Row). Shows (r .last .1 .1 .1 .0) (r .result) (readLine (g .text .now) x t)) row (r .ensures .0 t now)),
+          let now : Shows (l .cells) (l .d) t = l .inv .3 s shown in
+          let row : c .before .before .before .before .row-at .result ≡ dueRow (t .lines) =
+          c .before .before .before .before .row-at .ensures
+          ∙ (ap (λ (m : ℕ). rowAt m (c .before .before .before .before .before .units-read .result) (l .d .lines)) (c .before .before .before .before .before .before .before .first-at .ensures)
+          ∙ (ap (λ (n : ℕ). rowAt (numberOf (lineIn (l .cells) 0)) n (l .d .lines)) (c .before .before .before .before .before .units-read .ensures .0)
+          ∙ (ap (rowAt (numberOf (lineIn (l .cells) 0)) (ones (numberOf (lineIn (l .cells) 29)))) (now .lines-is)
+          ∙ row-due (l .cells) (t .lines) (now .kept) (omega (arith, l .inv .2, c .before .before .before .before .before .before .before .before .before .before .before .before .before .pre))))) in
+          rw by-next (subst (λ (x : Row). Shows (r .last .1 .1 .1 .0) (r .result) (readLine (g .text .now) x t)) row (r .ensures .0 t now)),
     )
 
 same-length : tie.Need-same-length Inv-loop μ-loop
 same-length c = search needs
 
 returns : tie.Need-returns Inv-loop μ-loop
-returns c = 
+returns c =
     let l = c .before .loop in
     let all : l .i ≡ c .before .before .before .before .args .n = omega (arith, l .inv .0, c .loop-test .left) in
     (λ s shown. subst (λ (n : ℕ). Shows (l .cells) (l .d) (readBy (c .before .before .before .before .args .text .now) dueRow n s)) all (l .inv .3 s shown), omega (arith, l .inv .1))

@@ -45,7 +45,7 @@ loop-less : tie.Need-loop-less Inv-loop μ-loop
 loop-less c = search needs
 
 loop-again : tie.Need-loop-again Inv-loop μ-loop
-loop-again c = 
+loop-again c =
     let l = c .before .before .loop in
     let g = c .before .before .before .before .before .before .args in (
       omega arith,
@@ -73,7 +73,7 @@ cpf-by-requires c κs = search needs
 
 returns : tie.Need-returns Inv-loop μ-loop
 unfolding sheetBy
-returns c = 
+returns c =
     let l = c .before .before .before .before .before .before .before .loop in
     let f = lineIn (c .before .before .before .before .before .before .before .before .before .before .before .args .cells .now) in
     let u = c .before .before .before .before .before .before .before .before .before .first-at in

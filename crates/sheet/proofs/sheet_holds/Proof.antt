@@ -1,52 +1,46 @@
+-- Each test is a part of the definition.
+use mathlib.Core.Path.{sym, _∙_}
+use borrow.Author.Tests.{lt-leb, le-leb, not-true, not-false}
+use Rattle.sheet.specs.Ranges.{sheetHolds}
 use borrow.Author.Needs.{needs}
 use Rattle.sheet.proofs.sheet_holds.Statement.{statement}
 use Rattle.sheet.proofs.sheet_holds.Tie as tie
-use Rattle.sheet.proofs.sheet_holds.Reads as reads
-use Rattle.sheet.proofs.sheet_holds.Lts as lts
-use Rattle.sheet.proofs.cpf_holds.Reads as cpf-holds-reads
-use Rattle.sheet.proofs.date_holds.Reads as date-holds-reads
-use Rattle.sheet.proofs.rates_hold.Reads as rates-hold-reads
-use Rattle.sheet.proofs.units_hold.Reads as units-hold-reads
 
--- src/lib.rt:421:9
 date-holds-requires : tie.Need-date-holds-requires
 date-holds-requires c κs = search needs
 
--- src/lib.rt:422:9
 returns : tie.Need-returns
-returns c = search needs
+unfolding sheetHolds
+returns c = simp (sym (c .before .date-holds .ensures) ∙ not-true _ (c .if1 .taken))
 
--- src/lib.rt:424:9
 rates-hold-requires : tie.Need-rates-hold-requires
 rates-hold-requires c κs = search needs
 
--- src/lib.rt:425:9
 returns-2 : tie.Need-returns-2
-returns-2 c = search needs
+unfolding sheetHolds
+returns-2 c = simp (sym (c .before .before .before .date-holds .ensures) ∙ not-false _ (c .before .before .if1 .left), sym (c .before .rates-hold .ensures) ∙ not-true _ (c .if2 .taken))
 
--- src/lib.rt:428:9
 cpf-holds-requires : tie.Need-cpf-holds-requires
 cpf-holds-requires c κs = search needs
 
--- src/lib.rt:429:9
 returns-3 : tie.Need-returns-3
-returns-3 c = search needs
+unfolding sheetHolds
+returns-3 c = simp (sym (c .before .before .before .before .before .before .date-holds .ensures) ∙ not-false _ (c .before .before .before .before .before .if1 .left), sym (c .before .before .before .before .rates-hold .ensures) ∙ not-false _ (c .before .before .before .if2 .left), sym (c .before .cpf-holds .ensures) ∙ not-true _ (c .if3 .taken))
 
--- src/lib.rt:432:9
 returns-4 : tie.Need-returns-4
-returns-4 c = search needs
+unfolding sheetHolds
+returns-4 c = simp (sym (c .before .before .before .before .before .before .before .before .date-holds .ensures) ∙ not-false _ (c .before .before .before .before .before .before .before .if1 .left), sym (c .before .before .before .before .before .before .rates-hold .ensures) ∙ not-false _ (c .before .before .before .before .before .if2 .left), sym (c .before .before .before .cpf-holds .ensures) ∙ not-false _ (c .before .before .if3 .left), lt-leb _ _ (c .if4 .taken))
 
--- src/lib.rt:435:9
 returns-5 : tie.Need-returns-5
-returns-5 c = search needs
+unfolding sheetHolds
+returns-5 c = simp (sym (c .before .before .before .before .before .before .before .before .before .before .date-holds .ensures) ∙ not-false _ (c .before .before .before .before .before .before .before .before .before .if1 .left), sym (c .before .before .before .before .before .before .before .before .rates-hold .ensures) ∙ not-false _ (c .before .before .before .before .before .before .before .if2 .left), sym (c .before .before .before .before .before .cpf-holds .ensures) ∙ not-false _ (c .before .before .before .before .if3 .left), le-leb _ _ (c .before .before .if4 .left), lt-leb _ _ (c .if5 .taken))
 
--- src/lib.rt:438:5
 units-hold-requires : tie.Need-units-hold-requires
 units-hold-requires c κs = search needs
 
--- src/lib.rt:418:1
 returns-6 : tie.Need-returns-6
-returns-6 c = search needs
+unfolding sheetHolds
+returns-6 c = simp (sym (c .before .before .before .before .before .before .before .before .before .before .before .before .date-holds .ensures) ∙ not-false _ (c .before .before .before .before .before .before .before .before .before .before .before .if1 .left), sym (c .before .before .before .before .before .before .before .before .before .before .rates-hold .ensures) ∙ not-false _ (c .before .before .before .before .before .before .before .before .before .if2 .left), sym (c .before .before .before .before .before .before .before .cpf-holds .ensures) ∙ not-false _ (c .before .before .before .before .before .before .if3 .left), le-leb _ _ (c .before .before .before .before .if4 .left), le-leb _ _ (c .before .before .if5 .left)) (c .units-hold .ensures)
 
 pub sheet-holds-spec : {M : Type 1} → statement M
 sheet-holds-spec =

@@ -56,7 +56,7 @@ loop-less : tie.Need-loop-less Inv-loop μ-loop
 loop-less c = search needs
 
 loop-again : tie.Need-loop-again Inv-loop μ-loop
-loop-again c = 
+loop-again c =
     let l = c .before .before .loop in
     let g = c .before .before .before .before .before .args in (
       omega arith,
@@ -81,7 +81,7 @@ first-at-requires-3 c κs = search needs
 
 returns : tie.Need-returns Inv-loop μ-loop
 unfolding unitBy
-returns c = 
+returns c =
     let l = c .before .before .before .before .loop in
     let g = c .before .before .before .before .before .before .before .args in
     let f : ℕ → Offer = λ h. offerBy (lineIn (g .cells .now) (blockLine (g .j) + 3 + h)) in

@@ -35,7 +35,7 @@ offer-row-requires : tie.Need-offer-row-requires
 offer-row-requires c κs = search needs
 
 returns-4 : tie.Need-returns-4
-returns-4 c = 
+returns-4 c =
     c .offer-row .ensures ∙ sym (offer-at (c .before .before .before .before .args .k) (omega (arith, c .before .if3 .left, c .before .before .if2 .left, c .before .before .before .if1 .left)) (c .before .before .before .before .pre))
 
 pub unit-row-spec : {M : Type 1} → statement M

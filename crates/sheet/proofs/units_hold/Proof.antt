@@ -40,12 +40,12 @@ loop-less : tie.Need-loop-less Inv-loop μ-loop
 loop-less c = search needs
 
 loop-again : tie.Need-loop-again Inv-loop μ-loop
-loop-again c = 
+loop-again c =
     let l = c .before .before .before .before .loop in
     (omega arith, every-next (l .k) (λ k. placeHolds (c .before .before .before .before .before .args .units) k (unitAt (c .before .before .before .before .before .args .t2) k)) (l .inv .1) (sym (c .before .place-holds .ensures) ∙ not-false _ (c .if1 .left)))
 
 returns-2 : tie.Need-returns-2 Inv-loop μ-loop
-returns-2 c = 
+returns-2 c =
     let l = c .before .loop in
     let all : l .k ≡ 8 = omega arith in
     sym (l .inv .1) ∙ ap (λ (n : ℕ). every n (λ k. placeHolds (c .before .before .args .units) k (unitAt (c .before .before .args .t2) k))) all
