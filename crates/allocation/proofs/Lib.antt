@@ -1,0 +1,3 @@
+pub mod Best
+pub mod Threshold
+pub mod Runs

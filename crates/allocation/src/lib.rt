@@ -1,0 +1,5 @@
+// A unit's place, or none.
+pub enum Pick {
+    Nothing,
+    At(usize),
+}
