@@ -1,0 +1,193 @@
+// A unit's offer for an hour: its test, and the modified offer's prices and sums.
+ghost use mathlib.Core.Path.{_≡_};
+ghost use mathlib.Core.Bool.{true};
+ghost use Prim.Native.Nat.{ℕ, _-_, _≤_, _<_};
+ghost use Rattle.finite.specs.Finite.{every};
+ghost use Rattle.offer.specs.Offer.{noOffer, inRange, inOrder, stepInRange, stepInOrder, offerHolds, lastQuantity};
+ghost use Rattle.offer.specs.Modified.{OnStep, IsBlock, costBetween};
+
+use energy::HubKwh;
+
+// Up to ten steps: a cumulative quantity and a price in Rial/MWh. Past the number of steps nothing is looked at.
+pub struct Offer {
+    pub steps: usize,
+    pub quantity: [HubKwh; 10],
+    pub price: [u64; 10],
+}
+
+// Grains that follow one another at one price, up to the grain `end`, which is no longer one of them.
+pub struct Block {
+    pub price: u64,
+    pub end: u64,
+}
+
+// No steps.
+pub fn no_offer() -> Offer
+    ensures { λ r. ⌜ r ≡ noOffer ⌝ }
+{
+    Offer {
+        steps: 0,
+        quantity: [HubKwh(0); 10],
+        price: [0u64; 10],
+    }
+}
+
+// Whether a step's quantity and price are in their ranges.
+pub fn in_range(quantity: HubKwh, price: u64) -> bool
+    ensures { λ r. ⌜ r ≡ inRange quantity price ⌝ }
+{
+    if quantity.0 < 1 {
+        return false;
+    }
+    if quantity.0 > 1000000 {
+        return false;
+    }
+    price <= 10000000
+}
+
+// Whether a step may be followed by the next one: its quantity is less, its price no more.
+pub fn in_order(quantity: HubKwh, price: u64, next_quantity: HubKwh, next_price: u64) -> bool
+    ensures { λ r. ⌜ r ≡ inOrder quantity price «next_quantity» «next_price» ⌝ }
+{
+    if quantity.0 < next_quantity.0 {
+        return price <= next_price;
+    }
+    false
+}
+
+// Whether each step is in its ranges.
+fn steps_in_range(offer: Offer) -> bool
+    requires { ⌜ offer .steps ≤ 10 ⌝ }
+    ensures { λ r. ⌜ r ≡ every (offer .steps) (stepInRange offer) ⌝ }
+{
+    let steps = offer.steps;
+    let mut s: usize = 0;
+    while s < steps {
+        let quantity = offer.quantity[s];
+        let price = offer.price[s];
+        if !in_range(quantity, price) {
+            return false;
+        }
+        s += 1;
+    }
+    true
+}
+
+// Whether each step but the last may be followed by the next.
+fn steps_in_order(offer: Offer) -> bool
+    requires { ⌜ (1 ≤ offer .steps) × (offer .steps ≤ 10) ⌝ }
+    ensures { λ r. ⌜ r ≡ every (offer .steps - 1) (stepInOrder offer) ⌝ }
+{
+    let last = offer.steps - 1;
+    let mut s: usize = 0;
+    while s < last {
+        let quantity = offer.quantity[s];
+        let price = offer.price[s];
+        let next_quantity = offer.quantity[s + 1];
+        let next_price = offer.price[s + 1];
+        if !in_order(quantity, price, next_quantity, next_price) {
+            return false;
+        }
+        s += 1;
+    }
+    true
+}
+
+// Whether the offer keeps its ranges and its order: 1 to 10 steps, each in its ranges, quantities rising, prices never falling.
+pub fn offer_holds(offer: Offer) -> bool
+    ensures { λ r. ⌜ r ≡ offerHolds offer ⌝ }
+{
+    if offer.steps < 1 {
+        return false;
+    }
+    if offer.steps > 10 {
+        return false;
+    }
+    if !steps_in_range(offer) {
+        return false;
+    }
+    steps_in_order(offer)
+}
+
+// The quantity of the last step, or 0 where the number of steps is not 1 to 10.
+pub fn last_quantity(offer: Offer) -> HubKwh
+    ensures { λ r. ⌜ r ≡ lastQuantity offer ⌝ }
+{
+    if offer.steps < 1 {
+        return HubKwh(0);
+    }
+    if offer.steps > 10 {
+        return HubKwh(0);
+    }
+    let last = offer.steps - 1;
+    offer.quantity[last]
+}
+
+// The step that grain i falls in; the last one has no end.
+fn step_at(offer: Offer, i: u64) -> usize
+    requires { ⌜ offerHolds offer ≡ true ⌝ }
+    ensures { λ r. ⌜ OnStep offer i r ⌝ }
+{
+    let last = offer.steps - 1;
+    let mut s: usize = 0;
+    while s < last {
+        let quantity = offer.quantity[s];
+        let end = energy::grains_of(quantity);
+        if i < end.0 {
+            return s;
+        }
+        s += 1;
+    }
+    s
+}
+
+fn least(a: u64, b: u64) -> u64
+    ensures { λ r. ⌜ (r ≤ a) × (r ≤ b) ⌝ }
+    ensures { λ r. ⌜ ((x : ℕ) → x < a → x < b → x < r) ⌝ }
+{
+    if a < b { a } else { b }
+}
+
+// The grains from i on, below `limit`, that have the price of grain i under the modified offer.
+pub fn block_at(offer: Offer, commitment: HubKwh, i: u64, limit: u64) -> Block
+    requires { ⌜ (offerHolds offer ≡ true) × (commitment .0 ≤ 1000000000) × (i < limit) ⌝ }
+    ensures { λ r. ⌜ IsBlock offer commitment i limit (r .price) (r .end) ⌝ }
+{
+    let committed = energy::grains_of(commitment);
+    if i < committed.0 {
+        return Block {
+            price: 0,
+            end: least(committed.0, limit),
+        };
+    }
+    let last = offer.steps - 1;
+    let s = step_at(offer, i);
+    let price = offer.price[s];
+    if s < last {
+        let quantity = offer.quantity[s];
+        let end = energy::grains_of(quantity);
+        return Block {
+            price: price,
+            end: least(end.0, limit),
+        };
+    }
+    Block {
+        price: price,
+        end: limit,
+    }
+}
+
+// What the grains from `from` up to `to` cost under the modified offer, undivided: block by block.
+pub fn cost_between(offer: Offer, commitment: HubKwh, from: u64, to: u64) -> u64
+    requires { ⌜ (offerHolds offer ≡ true) × (commitment .0 ≤ 1000000000) × (from ≤ to) × (to ≤ 100000000000) ⌝ }
+    ensures { λ r. ⌜ r ≡ costBetween offer commitment from to ⌝ }
+{
+    let mut cost: u64 = 0;
+    let mut at = from;
+    while at < to {
+        let block = block_at(offer, commitment, at, to);
+        cost += (block.end - at) * block.price;
+        at = block.end;
+    }
+    cost
+}
