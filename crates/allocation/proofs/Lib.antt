@@ -1,3 +1,4 @@
 pub mod Best
 pub mod Threshold
 pub mod Runs
+pub mod Ceilings
