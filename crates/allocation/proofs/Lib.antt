@@ -2,3 +2,6 @@ pub mod Best
 pub mod Threshold
 pub mod Runs
 pub mod Ceilings
+pub mod Quick
+pub mod Laws
+pub mod Marked

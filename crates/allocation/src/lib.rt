@@ -1,8 +1,8 @@
 // The plant's net hub energy allocated to its units: ceilings, and the fill by rising price.
 use energy::GrossKwh;
-use energy::NetKwh;
-use energy::HubKwh;
 use energy::HubGrains;
+use energy::HubKwh;
+use energy::NetKwh;
 use offer::Offer;
 
 // A unit's place, or none.
