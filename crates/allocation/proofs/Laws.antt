@@ -19,7 +19,7 @@ use Rattle.allocation.specs.declared.Plant.{Plant}
 use Rattle.allocation.specs.Fill.{grainsAt, Split, costOf, fill}
 use Rattle.allocation.specs.Allocation.{netEnergy, plantEnergy, ceilings, priceOf, energies, energies-is, Allocated, PlantHolds}
 use Rattle.allocation.proofs.Threshold.{Rising, fill-cheapest, fill-length}
-use Rattle.allocation.proofs.Ceilings.{ceilings-reach, ceiling-none}
+use Rattle.allocation.proofs.Weights.{ceilings-reach, ceiling-none}
 
 module _ (net reverse : NetKwh) (plant : Plant) where
   -- there is a place for each of eight units

@@ -1,7 +1,7 @@
 pub mod Best
 pub mod Threshold
 pub mod Runs
-pub mod Ceilings
+pub mod Weights
 pub mod Quick
 pub mod Laws
 pub mod Marked

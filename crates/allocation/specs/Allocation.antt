@@ -20,9 +20,13 @@ use Rattle.apportion.specs.Shares.{shares}
 use Rattle.allocation.specs.declared.Plant.{Plant}
 use Rattle.allocation.specs.Fill.{grainsAt, fill, Cheapest}
 
--- N = max(net − reverse, 0): the difference of two natural numbers stops at 0
+-- max(a − b, 0): the difference of two natural numbers stops at 0
+abbrev pub above : NetKwh → NetKwh → NetKwh
+above a b = record { 0 = a .0 - b .0 }
+
+-- N = max(net − reverse, 0)
 unfoldable pub netEnergy : NetKwh → NetKwh → NetKwh
-netEnergy net reverse = record { 0 = net .0 - reverse .0 }
+netEnergy net reverse = above net reverse
 
 -- The plant's net hub energy is H = N × (10,000 − L)
 unfoldable pub plantEnergy : NetKwh → NetKwh → ℕ → HubGrains
@@ -41,7 +45,7 @@ realSum plant = record { 0 = sum 8 (λ k. netAt (plant .units) (plant .real) k .
 
 -- X = max(N − R, 0) × (10,000 − L)
 unfoldable pub excess : NetKwh → NetKwh → Plant → HubGrains
-excess net reverse plant = hubOf (record { 0 = netEnergy net reverse .0 - realSum plant .0 }) (plant .loss)
+excess net reverse plant = hubOf (above (netEnergy net reverse) (realSum plant)) (plant .loss)
 
 -- by `real`, or by `nominal` where R = 0
 unfoldable pub weightAt : Plant → ℕ → ℕ
