@@ -5,7 +5,6 @@ ghost use Prim.Native.Nat.{ℕ, _-_, _≤_, _<_};
 ghost use Rattle.finite.specs.Finite.{every};
 ghost use Rattle.offer.specs.Offer.{noOffer, inRange, inOrder, stepInRange, stepInOrder, offerHolds, lastQuantity};
 ghost use Rattle.offer.specs.Modified.{OnStep, IsBlock, costBetween};
-
 use energy::HubKwh;
 
 // Up to ten steps: a cumulative quantity and a price in Rial/MWh. Past the number of steps nothing is looked at.

@@ -1,6 +1,6 @@
 -- What the crates above use of the plant's units: what membership says of a place, and how the number of units below a place grows.
 -- Assumes nothing.
-use mathlib.Core.Path.{_≡_, refl, sym, subst, ap, _∙_}
+use mathlib.Core.Path.{_≡_, refl, sym, ap, _∙_}
 use mathlib.Core.Bool.{true, false, _&&_}
 use Prim.Native.Nat.{ℕ, zero, suc, _+_, _-_, _≤_, _<_}
 use native.Mathlib.Omega.{arith}
@@ -8,7 +8,7 @@ use borrow.Author.Tests.{leb-true, eqb-true, eqb-false, le-leb, lt-leb}
 use lib.Dec.{leb, eqb}
 use lib.Count.{ones, ones-le}
 use Rattle.finite.specs.Finite.{sum}
-use Rattle.finite.proofs.Sums.{sum-next, sum-grows}
+use Rattle.finite.proofs.Sums.{sum-next, sum-mono}
 use Rattle.finite.proofs.Tests.{and-left, and-right}
 use Rattle.units.specs.Units.{bit, isMember, memberAt, members, isLowest}
 use Rattle.units.proofs.Ones.{bit-lt, ones-members, ones-positive}
@@ -82,9 +82,7 @@ module _ (units : ℕ) where
 
   pub members-mono : (j k : ℕ) → j ≤ k → members units j ≤ members units k
   unfolding members
-  members-mono j k h =
-      let e : j + (k - j) ≡ k = omega arith in
-      subst (λ (n : ℕ). sum j (bit units) ≤ sum n (bit units)) e (sum-grows j (k - j) (bit units))
+  members-mono j k h = sum-mono j k (bit units) h
 
   -- a unit of the plant has a block
   pub members-has : (k : ℕ) → memberAt units k ≡ true → members units k < members units 8

@@ -1,63 +1,69 @@
+-- Below the commitment the block ends there at the latest, in a step before the last at the step's quantity, in the last step at the limit.
+-- Assumes nothing.
+use mathlib.Core.Path.{ap}
+use native.Mathlib.Omega.{arith}
 use borrow.Author.Needs.{needs}
+use Rattle.energy.specs.declared.HubGrains.{HubGrains}
+use Rattle.offer.proofs.Steps.{holds}
+use Rattle.offer.proofs.Blocks.{committed-block, step-block, last-block}
 use Rattle.offer.proofs.block_at.Statement.{statement}
 use Rattle.offer.proofs.block_at.Tie as tie
-use Rattle.offer.proofs.block_at.Reads as reads
-use Rattle.offer.proofs.block_at.Lts as lts
-use Rattle.energy.proofs.grains_of.Reads as grains-of-reads
-use Rattle.offer.proofs.least.Reads as least-reads
-use Rattle.offer.proofs.step_at.Reads as step-at-reads
 
--- src/lib.rt:156:9
 grains-of-requires : tie.Need-grains-of-requires
 grains-of-requires c κs = search needs
 
--- src/lib.rt:160:18
 least-requires : tie.Need-least-requires
 least-requires c κs = search needs
 
--- src/lib.rt:158:9
 returns : tie.Need-returns
-returns c = search needs
+returns c =
+    let a = c .before .before .before .before .args in
+    let e = ap (λ (g : HubGrains). g .0) (c .before .before .before .grains-of .ensures) in
+    let m = c .least .ensures in
+    committed-block (a .t1) (a .commitment) (a .i) (a .limit) (c .least .result)
+    (m .1 (a .i) (c .before .if1 .taken) (c .before .before .before .before .pre .2)) (m .0 .1) (omega (arith, m .0 .0))
 
--- src/lib.rt:163:16
 sub-last : tie.Need-sub-last
-sub-last c = search needs
+sub-last c = holds (c .before .before .before .args .t1) (c .before .before .before .pre .0) .least
 
--- src/lib.rt:164:9
 step-at-requires : tie.Need-step-at-requires
-step-at-requires c κs = search needs
+step-at-requires c κs = c .before .before .before .pre .0
 
--- src/lib.rt:165:17
 mul-price : tie.Need-mul-price
-mul-price c = search needs
+mul-price c = omega (arith, c .step-at .ensures .known, holds (c .before .before .before .before .args .t1) (c .before .before .before .before .pre .0) .most)
 
--- src/lib.rt:165:17
 element-copy-out-price : tie.Need-element-copy-out-price
-element-copy-out-price c = search needs
+element-copy-out-price c = omega (arith, c .step-at .ensures .known, holds (c .before .before .before .before .args .t1) (c .before .before .before .before .pre .0) .most, holds (c .before .before .before .before .args .t1) (c .before .before .before .before .pre .0) .least)
 
--- src/lib.rt:167:24
 mul-quantity : tie.Need-mul-quantity
-mul-quantity c = search needs
+mul-quantity c = omega (arith, holds (c .before .before .before .before .before .before .args .t1) (c .before .before .before .before .before .before .pre .0) .most)
 
--- src/lib.rt:167:24
 element-copy-out-quantity : tie.Need-element-copy-out-quantity
-element-copy-out-quantity c = search needs
+element-copy-out-quantity c = omega (arith, holds (c .before .before .before .before .before .before .args .t1) (c .before .before .before .before .before .before .pre .0) .most)
 
--- src/lib.rt:168:13
 grains-of-requires-2 : tie.Need-grains-of-requires-2
-grains-of-requires-2 c κs = search needs
+grains-of-requires-2 c κs = omega (arith, holds (c .before .before .before .before .before .before .before .args .t1) (c .before .before .before .before .before .before .before .pre .0) .quantity-most (c .before .before .before .step-at .result) (omega arith))
 
--- src/lib.rt:171:18
 least-requires-2 : tie.Need-least-requires-2
 least-requires-2 c κs = search needs
 
--- src/lib.rt:169:9
 returns-2 : tie.Need-returns-2
-returns-2 c = search needs
+returns-2 c =
+    let a = c .before .before .before .before .before .before .before .before .before .args in
+    let m = c .least2 .ensures in
+    let on = c .before .before .before .before .before .step-at .ensures in
+    let e = ap (λ (g : HubGrains). g .0) (c .before .before .before .before .before .before .before .before .grains-of .ensures) in
+    let q = ap (λ (g : HubGrains). g .0) (c .before .grains-of2 .ensures) in
+    step-block (a .t1) (a .commitment) (a .i) (a .limit) (c .before .before .before .before .before .step-at .result) (c .least2 .result)
+    (omega (arith, c .before .before .before .before .before .before .if1 .left)) on (c .before .before .before .if2 .taken)
+    (m .1 (a .i) (omega (arith, on .ends (c .before .before .before .if2 .taken))) (c .before .before .before .before .before .before .before .before .before .pre .2)) (m .0 .1) (omega (arith, m .0 .0))
 
--- src/lib.rt:152:1
 returns-3 : tie.Need-returns-3
-returns-3 c = search needs
+returns-3 c =
+    let a = c .before .before .before .before .before .before .args in
+    let e = ap (λ (g : HubGrains). g .0) (c .before .before .before .before .before .grains-of .ensures) in
+    last-block (a .t1) (a .commitment) (a .i) (a .limit) (c .before .before .step-at .result)
+    (omega (arith, c .before .before .before .if1 .left)) (c .before .before .step-at .ensures) (c .if2 .left) (c .before .before .before .before .before .before .pre .2)
 
 pub block-at-spec : {M : Type 1} → statement M
 block-at-spec =

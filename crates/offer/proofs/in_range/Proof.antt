@@ -1,20 +1,25 @@
-use borrow.Author.Needs.{needs}
+-- Each branch settles one of the three tests of the definition.
+-- Assumes nothing.
+use borrow.Author.Tests.{le-leb, lt-leb}
+use Rattle.offer.specs.Offer.{inRange}
 use Rattle.offer.proofs.in_range.Statement.{statement}
 use Rattle.offer.proofs.in_range.Tie as tie
-use Rattle.offer.proofs.in_range.Reads as reads
-use Rattle.offer.proofs.in_range.Lts as lts
 
--- src/lib.rt:40:9
 returns : tie.Need-returns
-returns c = search needs
+unfolding inRange
+returns c = rw (lt-leb 1 (c .before .before .args .quantity .0) (c .if1 .taken))
 
--- src/lib.rt:43:9
 returns-2 : tie.Need-returns-2
-returns-2 c = search needs
+unfolding inRange
+returns-2 c =
+    let q = c .before .before .before .before .args .quantity .0 in
+    rw (le-leb 1 q (c .before .before .if1 .left), lt-leb q 1000000 (c .if2 .taken))
 
--- src/lib.rt:36:1
 returns-3 : tie.Need-returns-3
-returns-3 c = search needs
+unfolding inRange
+returns-3 c =
+    let q = c .before .before .before .before .args .quantity .0 in
+    rw (le-leb 1 q (c .before .before .if1 .left), le-leb q 1000000 (c .if2 .left))
 
 pub in-range-spec : {M : Type 1} → statement M
 in-range-spec = tie.close (tie.spec returns returns-2 returns-3)

@@ -1,55 +1,58 @@
+-- The loop keeps that from grain i on the steps before s do not matter: each of them ends at or before i.
+-- Assumes nothing.
+use mathlib.Core.Path.{ap}
+use Prim.Native.Nat.{_≤_, _-_}
+use native.Mathlib.Omega.{arith}
 use borrow.Author.Needs.{needs}
+use Rattle.energy.specs.declared.HubGrains.{HubGrains}
+use Rattle.offer.proofs.Steps.{holds}
+use Rattle.offer.proofs.Blocks.{Passed, start, onward}
 use Rattle.offer.proofs.step_at.Statement.{statement}
 use Rattle.offer.proofs.step_at.Tie as tie
-use Rattle.offer.proofs.step_at.Reads as reads
-use Rattle.offer.proofs.step_at.Lts as lts
-use Rattle.energy.proofs.grains_of.Reads as grains-of-reads
 
 abbrev Inv-loop : tie.InvT-loop
-Inv-loop i offer last s₀ s = ?
+Inv-loop i offer last s₀ s = (s ≤ last) × Passed offer i s
 
 abbrev μ-loop : tie.MeasureT-loop
-μ-loop i offer last s₀ s = ?
+μ-loop i offer last s₀ s = last - s
 
--- src/lib.rt:131:16
 sub-last : tie.Need-sub-last Inv-loop μ-loop
-sub-last c = search needs
+sub-last c = holds (c .args .t1) (c .pre) .least
 
--- src/lib.rt:133:5
 loop-holds : tie.Need-loop-holds Inv-loop μ-loop
-loop-holds c = search needs
+loop-holds c = (omega arith, start (c .args .t1) (c .args .i))
 
--- src/lib.rt:134:24
 mul-quantity : tie.Need-mul-quantity Inv-loop μ-loop
-mul-quantity c = search needs
+mul-quantity c = omega (arith, holds (c .before .before .args .t1) (c .before .before .pre) .most)
 
--- src/lib.rt:134:24
 element-copy-out-quantity : tie.Need-element-copy-out-quantity Inv-loop μ-loop
-element-copy-out-quantity c = search needs
+element-copy-out-quantity c = omega (arith, holds (c .before .before .args .t1) (c .before .before .pre) .most)
 
--- src/lib.rt:135:13
 grains-of-requires : tie.Need-grains-of-requires Inv-loop μ-loop
-grains-of-requires c κs = search needs
+grains-of-requires c κs = omega (arith, holds (c .before .before .before .args .t1) (c .before .before .before .pre) .quantity-most (c .before .before .loop .s) (omega arith))
 
--- src/lib.rt:137:13
 returns : tie.Need-returns Inv-loop μ-loop
-returns c = search needs
+returns c =
+    let l = c .before .before .before .before .before .loop in
+    let e = ap (λ (g : HubGrains). g .0) (c .before .before .grains-of .ensures) in
+    record { known = l .inv .0; rest = l .inv .1; ends = λ h. omega arith }
 
--- src/lib.rt:139:9
 add-s : tie.Need-add-s Inv-loop μ-loop
 add-s c = search needs
 
--- src/lib.rt:133:5
 loop-less : tie.Need-loop-less Inv-loop μ-loop
 loop-less c = search needs
 
--- src/lib.rt:133:5
 loop-again : tie.Need-loop-again Inv-loop μ-loop
-loop-again c = search needs
+loop-again c =
+    let l = c .before .before .before .before .before .loop in
+    let e = ap (λ (g : HubGrains). g .0) (c .before .before .grains-of .ensures) in
+    (omega arith, onward (c .before .before .before .before .before .before .args .t1) (c .before .before .before .before .before .before .args .i) (l .s) (omega arith) (omega arith) (l .inv .1))
 
--- src/lib.rt:127:1
 returns-2 : tie.Need-returns-2 Inv-loop μ-loop
-returns-2 c = search needs
+returns-2 c =
+    let l = c .before .loop in
+    record { known = l .inv .0; rest = l .inv .1; ends = λ h. omega arith }
 
 pub step-at-spec : {M : Type 1} → statement M
 step-at-spec =

@@ -1,59 +1,63 @@
+-- The loop keeps that every step before s passes; where one fails, so does the whole test.
+-- Assumes nothing.
+use mathlib.Core.Path.{_≡_, refl, sym, _∙_, ap}
+use mathlib.Core.Bool.{true}
+use Prim.Native.Nat.{ℕ, _≤_, _-_}
+use native.Mathlib.Omega.{arith}
 use borrow.Author.Needs.{needs}
+use borrow.Author.Tests.{not-true, not-false}
+use Rattle.finite.specs.Finite.{every}
+use Rattle.finite.proofs.Tests.{every-next, every-fails}
+use Rattle.offer.specs.Offer.{stepInRange}
 use Rattle.offer.proofs.steps_in_range.Statement.{statement}
 use Rattle.offer.proofs.steps_in_range.Tie as tie
-use Rattle.offer.proofs.steps_in_range.Reads as reads
-use Rattle.offer.proofs.steps_in_range.Lts as lts
-use Rattle.offer.proofs.in_range.Reads as in-range-reads
 
 abbrev Inv-loop : tie.InvT-loop
-Inv-loop offer steps s₀ s = ?
+Inv-loop offer steps s₀ s = (s ≤ steps) × (every s (stepInRange offer) ≡ true)
 
 abbrev μ-loop : tie.MeasureT-loop
-μ-loop offer steps s₀ s = ?
+μ-loop offer steps s₀ s = steps - s
 
--- src/lib.rt:65:5
 loop-holds : tie.Need-loop-holds Inv-loop μ-loop
-loop-holds c = search needs
+unfolding every
+loop-holds c = (omega arith, refl)
 
--- src/lib.rt:66:24
 mul-quantity : tie.Need-mul-quantity Inv-loop μ-loop
 mul-quantity c = search needs
 
--- src/lib.rt:66:24
 element-copy-out-quantity : tie.Need-element-copy-out-quantity Inv-loop μ-loop
 element-copy-out-quantity c = search needs
 
--- src/lib.rt:67:21
 mul-price : tie.Need-mul-price Inv-loop μ-loop
 mul-price c = search needs
 
--- src/lib.rt:67:21
 element-copy-out-price : tie.Need-element-copy-out-price Inv-loop μ-loop
 element-copy-out-price c = search needs
 
--- src/lib.rt:68:13
 in-range-requires : tie.Need-in-range-requires Inv-loop μ-loop
 in-range-requires c κs = search needs
 
--- src/lib.rt:69:13
 returns : tie.Need-returns Inv-loop μ-loop
-returns c = search needs
+returns c =
+    let o = c .before .before .before .before .before .before .args .t1 in
+    sym (every-fails (o .steps) (c .before .before .before .before .before .loop .s) (stepInRange o) (c .before .before .before .before .loop-test .taken) (sym (c .before .in-range .ensures) ∙ not-true _ (c .if1 .taken)))
 
--- src/lib.rt:71:9
 add-s : tie.Need-add-s Inv-loop μ-loop
 add-s c = search needs
 
--- src/lib.rt:65:5
 loop-less : tie.Need-loop-less Inv-loop μ-loop
 loop-less c = search needs
 
--- src/lib.rt:65:5
 loop-again : tie.Need-loop-again Inv-loop μ-loop
-loop-again c = search needs
+loop-again c =
+    let l = c .before .before .before .before .before .loop in
+    (omega arith, every-next (l .s) (stepInRange (c .before .before .before .before .before .before .args .t1)) (l .inv .1) (sym (c .before .in-range .ensures) ∙ not-false _ (c .if1 .left)))
 
--- src/lib.rt:59:1
 returns-2 : tie.Need-returns-2 Inv-loop μ-loop
-returns-2 c = search needs
+returns-2 c =
+    let o = c .before .before .args .t1 in
+    let e : c .before .loop .s ≡ o .steps = omega arith in
+    sym (ap (λ (n : ℕ). every n (stepInRange o)) (sym e) ∙ c .before .loop .inv .1)
 
 pub steps-in-range-spec : {M : Type 1} → statement M
 steps-in-range-spec =
