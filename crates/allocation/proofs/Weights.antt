@@ -4,8 +4,8 @@
 use mathlib.Core.Path.{_≡_, refl, sym, subst, _∙_, ap}
 use mathlib.Core.Bool.{Bool, true, false, cond}
 use mathlib.Core.List.{List}
-use Prim.Native.Nat.{ℕ, _+_, _*_, _-_, _≤_, _<_}
-use native.Mathlib.Nat.{zero-mul}
+use Prim.Native.Nat.{ℕ, _+_, _*_, _-_, _^_, _≤_, _<_}
+use native.Mathlib.Nat.{zero-mul, mul-le-mul}
 use native.Mathlib.Decide.{decLt}
 use native.Mathlib.Omega.{arith}
 use borrow.Author.Tests.{eq-eqb, ne-eqb}
@@ -21,11 +21,11 @@ use Rattle.energy.specs.Energy.{hubOf}
 use Rattle.energy.proofs.Laws.{hub-le, hub-mono, hub-add, hub-sum}
 use Rattle.units.specs.Units.{bit, memberAt, members}
 use Rattle.units.proofs.Laws.{count-members, count-positive, place-one, place-zero}
-use Rattle.apportion.specs.Shares.{sumOf, shares}
+use Rattle.apportion.specs.Shares.{sumOf, Fits}
 use Rattle.apportion.proofs.Laws.{shares-total, share-none, share-within}
 use Rattle.allocation.specs.declared.Plant.{Plant}
 use Rattle.allocation.specs.Fill.{grainsAt}
-use Rattle.allocation.specs.Allocation.{netEnergy, plantEnergy, netAt, grossAt, realSum, excess, weightAt, excessShares, ceilingAt, ceilings, ceilings-is, PlantHolds}
+use Rattle.allocation.specs.Allocation.{above, netEnergy, plantEnergy, netAt, grossAt, realSum, excess, weightAt, excessShares, ceilingAt, ceilings, ceilings-is, PlantHolds}
 
 by-member : (units k : ℕ) (P : Bool → Type 0) → (memberAt units k ≡ true → P true) → (memberAt units k ≡ false → P false) → P (memberAt units k)
 by-member units k P inside outside = go (memberAt units k) refl
@@ -33,6 +33,10 @@ by-member units k P inside outside = go (memberAt units k) refl
     go : (t : Bool) → memberAt units k ≡ t → P t
     go true e = inside e
     go false e = outside e
+
+million-each : sum 8 (λ _. 1000000) ≡ 8000000
+unfolding sum
+million-each = refl
 
 module _ (plant : Plant) where
   pub weight-at : (k : ℕ) → k < 8 → getD (tabulate 8 (weightAt plant)) k 0 ≡ weightAt plant k
@@ -150,3 +154,27 @@ module _ (plant : Plant) where
         where
           zero-hub : netAt (plant .units) (plant .real) k .0 * (10000 - plant .loss) ≡ 0
           zero-hub = simp t (zero-mul (10000 - plant .loss))
+
+      -- for the code: the excess, its shares and the weights are machine numbers
+      module _ (m : net .0 ≤ 8000000) where
+        excess-most : excess net reverse plant .0 ≤ 80000000000
+        unfolding excess netEnergy
+        excess-most = omega (arith, hub-le (above (netEnergy net reverse) (realSum plant)) (plant .loss))
+
+        pub weights-fit : (sumOf (tabulate 8 (weightAt plant)) < 2 ^ 64) × Fits (tabulate 8 (weightAt plant)) (excess net reverse plant .0)
+        weights-fit = (
+          omega (arith, weights-sum, sum-le 8 (weightAt plant) (λ _. 1000000) (λ k _. weight-most k), million-each),
+          λ k l.
+              let l' : k < 8 = omega (arith, length-tabulate 8 (weightAt plant)) in
+              let w : getD (tabulate 8 (weightAt plant)) k 0 ≤ 1000000 = omega (arith, weight-at k l', weight-most k) in
+              omega (arith, mul-le-mul excess-most w),
+        )
+
+        pub share-most : (k : ℕ) → k < 8 → getD (excessShares net reverse plant) k 0 ≤ 100000000000
+        unfolding excessShares
+        share-most k l =
+            omega (
+              arith,
+              share-within (tabulate 8 (weightAt plant)) (excess net reverse plant .0) k (omega (arith, length-tabulate 8 (weightAt plant))),
+              excess-most,
+            )

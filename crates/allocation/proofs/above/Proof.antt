@@ -9,7 +9,7 @@ use Rattle.allocation.proofs.above.Statement.{statement}
 use Rattle.allocation.proofs.above.Tie as tie
 
 returns : tie.Need-returns
-returns c = 
+returns c =
     let a = c .before .before .before .args in
     let e : 0 ≡ a .a .0 - a .b .0 = omega arith in
     let kwh : ℕ → NetKwh = λ x. record { 0 = x } in
