@@ -3,20 +3,18 @@
 -- Assumes nothing.
 use mathlib.Core.Path.{_≡_, refl, _∙_, ap}
 use mathlib.Core.Bool.{Bool, true, false}
-use mathlib.Core.List.{List}
-use Prim.Native.Nat.{ℕ, suc, _*_, _≤_, _<_}
+use Prim.Native.Nat.{ℕ, suc, _≤_, _<_}
 use native.Mathlib.Omega.{arith}
 use lib.ListN.{length, getD}
 use Rattle.finite.specs.Finite.{sum}
 use Rattle.finite.proofs.Sums.{sum-has}
 use Rattle.energy.specs.declared.NetKwh.{NetKwh}
-use Rattle.energy.specs.declared.HubGrains.{HubGrains}
 use Rattle.energy.proofs.Laws.{hub-le}
 use Rattle.units.specs.Units.{memberAt}
-use Rattle.offer.specs.Offer.{pastOffer, offerHolds}
+use Rattle.offer.specs.Offer.{pastOffer}
 use Rattle.offer.proofs.Prices.{price-rises}
 use Rattle.allocation.specs.declared.Plant.{Plant}
-use Rattle.allocation.specs.Fill.{grainsAt, Split, costOf, fill}
+use Rattle.allocation.specs.Fill.{grainsAt, fill}
 use Rattle.allocation.specs.Allocation.{netEnergy, plantEnergy, ceilings, priceOf, energies, energies-is, Allocated, PlantHolds}
 use Rattle.allocation.proofs.Threshold.{Rising, fill-cheapest, fill-length}
 use Rattle.allocation.proofs.Weights.{ceilings-reach, ceiling-none}

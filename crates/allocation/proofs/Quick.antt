@@ -1,7 +1,7 @@
 -- The fill by rounds, which computes at numerals. Where prices never fall, grains whose first and last have one price all have it, so
 -- such a stretch goes to one unit at once. `end u i` only says where unit u's stretch from grain i may end.
 -- Assumes nothing.
-use mathlib.Core.Path.{_≡_, refl, sym, subst, _∙_, ap}
+use mathlib.Core.Path.{_≡_, refl, sym, _∙_, ap}
 use mathlib.Core.Bool.{Bool, true, false, cond}
 use mathlib.Core.List.{List}
 use Prim.Native.Nat.{ℕ, zero, suc, _+_, _-_, _<_, _≤_, min}

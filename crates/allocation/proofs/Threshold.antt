@@ -1,7 +1,7 @@
 -- The fill places exactly h grains, each unit within its ceiling, and no other split costs less. Each grain placed keeps a
 -- threshold: no grain that is placed costs more, and none that has room costs less.
 -- Assumes nothing.
-use mathlib.Core.Path.{_≡_, refl, sym, subst, _∙_, ap}
+use mathlib.Core.Path.{_≡_, sym, subst, _∙_, ap}
 use mathlib.Core.List.{List}
 use Prim.Native.Nat.{ℕ, zero, suc, _+_, _*_, _-_, _≤_, _<_}
 use native.Mathlib.Nat.{add-zero, add-suc, mul-add, mul-zero, mul-suc}
@@ -10,14 +10,14 @@ use native.Mathlib.Decide.{decLe, ℕ-discrete}
 use native.Mathlib.Omega.{arith}
 use borrow.Author.Tests.{lt-ltb, ltb-true, ltb-false}
 use lib.Dec.{ltb}
-use lib.ListN.{length, getD, length-set, replicate, length-replicate, getD-replicate}
+use lib.ListN.{length, length-set, replicate, length-replicate, getD-replicate}
 use lib.Seq.{getD-set-same, getD-set-other}
 use Rattle.finite.specs.Finite.{sum}
 use Rattle.finite.proofs.Sums.{sum-le, sum-raise, sum-zero}
 use Rattle.energy.specs.declared.HubGrains.{HubGrains}
 use Rattle.allocation.specs.declared.Pick.{Pick}
 use Rattle.allocation.specs.declared.Pick.the-variants.{Nothing as none, At as at}
-use Rattle.allocation.specs.Fill.{grainsAt, withMore, nextUnit, give, place, fill, Split, costOf, Cheapest}
+use Rattle.allocation.specs.Fill.{grainsAt, withMore, nextUnit, give, place, fill, costOf, Cheapest}
 use Rattle.allocation.proofs.Best.{Best, Picked, best-is}
 
 -- m grains more for one unit, and the others as they were

@@ -1,7 +1,7 @@
 -- The ceilings add up to R at the hub and X, which is at least H. Some weight is over 0: by `real` the weights add up to R, which is over 0
 -- there, and by `nominal` each unit of the plant has at least 1. So the shares add up to X.
 -- Assumes nothing.
-use mathlib.Core.Path.{_≡_, refl, sym, subst, _∙_, ap}
+use mathlib.Core.Path.{_≡_, refl, sym, _∙_, ap}
 use mathlib.Core.Bool.{Bool, true, false, cond}
 use mathlib.Core.List.{List}
 use Prim.Native.Nat.{ℕ, _+_, _*_, _-_, _^_, _≤_, _<_}
@@ -9,22 +9,22 @@ use native.Mathlib.Nat.{zero-mul, mul-le-mul}
 use native.Mathlib.Decide.{decLt}
 use native.Mathlib.Omega.{arith}
 use borrow.Author.Tests.{eq-eqb, ne-eqb}
-use lib.Dec.{eqb}
-use lib.ListN.{length, getD}
+use lib.ListN.{getD}
 use Rattle.finite.specs.Finite.{sum, tabulate}
 use Rattle.finite.proofs.Sums.{sum-le, sum-same, sum-add}
 use Rattle.finite.proofs.Tables.{length-tabulate, getD-tabulate}
-use Rattle.energy.specs.declared.GrossKwh.{GrossKwh}
 use Rattle.energy.specs.declared.NetKwh.{NetKwh}
 use Rattle.energy.specs.declared.HubGrains.{HubGrains}
 use Rattle.energy.specs.Energy.{hubOf}
 use Rattle.energy.proofs.Laws.{hub-le, hub-mono, hub-add, hub-sum}
 use Rattle.units.specs.Units.{bit, memberAt, members}
 use Rattle.units.proofs.Laws.{count-members, count-positive, place-one, place-zero}
+use Rattle.offer.specs.Offer.{pastOffer, offerHolds}
 use Rattle.apportion.specs.Shares.{sumOf, Fits}
 use Rattle.apportion.proofs.Laws.{shares-total, share-none, share-within}
 use Rattle.allocation.specs.declared.Plant.{Plant}
 use Rattle.allocation.specs.Fill.{grainsAt}
+use Rattle.allocation.specs.Blocks.{Offered}
 use Rattle.allocation.specs.Allocation.{above, netEnergy, plantEnergy, netAt, grossAt, realSum, excess, weightAt, excessShares, ceilingAt, ceilings, ceilings-is, PlantHolds}
 
 by-member : (units k : ℕ) (P : Bool → Type 0) → (memberAt units k ≡ true → P true) → (memberAt units k ≡ false → P false) → P (memberAt units k)
@@ -154,6 +154,15 @@ module _ (plant : Plant) where
         where
           zero-hub : netAt (plant .units) (plant .real) k .0 * (10000 - plant .loss) ≡ 0
           zero-hub = simp t (zero-mul (10000 - plant .loss))
+
+      -- for the code: a unit with a ceiling over 0 is in the plant
+      pub offered : Offered (plant .offer) (plant .commitment) (ceilings net reverse plant)
+      offered u l over = go (memberAt (plant .units) u) refl
+        where
+          go : (t : Bool) → memberAt (plant .units) u ≡ t
+              → (offerHolds (getD (plant .offer) u pastOffer) ≡ true) × (getD (plant .commitment) u (record { 0 = 0 }) .0 ≤ 1000000000)
+          go true t = (h .each u t .offered, omega (arith, h .each u t .committed))
+          go false t = absurd (omega (arith, ceiling-none u l t))
 
       -- for the code: the excess, its shares and the weights are machine numbers
       module _ (m : net .0 ≤ 8000000) where

@@ -65,9 +65,12 @@ ceilingAt net reverse plant k =
 pub ceilings : NetKwh → NetKwh → Plant → List HubGrains
 ceilings net reverse plant = tabulate 8 (ceilingAt net reverse plant)
 
--- the modified offer (crate offer) of the unit at place k: the price of its grain i
+-- The modified offer (crate offer): the price of grain i of the unit at place k
+abbrev pub pricesOf : List Offer → List HubKwh → ℕ → ℕ → ℕ
+pricesOf offers commitments k i = priceAt (getD offers k pastOffer) (getD commitments k (record { 0 = 0 })) i
+
 unfoldable pub priceOf : Plant → ℕ → ℕ → ℕ
-priceOf plant k i = priceAt (getD (plant .offer) k pastOffer) (getD (plant .commitment) k (record { 0 = 0 })) i
+priceOf plant = pricesOf (plant .offer) (plant .commitment)
 
 -- Fill by rising price, lower unit first at equal price, each unit to its ceiling, until H is placed
 pub energies : NetKwh → NetKwh → Plant → List HubGrains
