@@ -3,7 +3,7 @@
 -- Assumes nothing.
 use mathlib.Core.Path.{_≡_, sym}
 use Prim.Native.Nat.{ℕ, zero, suc, _+_, _*_, _-_, _≤_, _<_}
-use native.Mathlib.Nat.{mul-le-mul, add-mul, suc-mul, zero-mul, div-add-mod', div-lt-iff-lt-mul, mod-lt, zero-div, le-of-suc-le-suc}
+use native.Mathlib.Nat.{mul-le-mul, mul-le-mul-left, mul-le-mul-right, add-mul, suc-mul, zero-mul, div-add-mod', div-lt-iff-lt-mul, mod-lt, zero-div, le-of-suc-le-suc}
 use native.Mathlib.Omega.{arith}
 use Rattle.finite.specs.Finite.{sum}
 use Rattle.energy.specs.declared.GrossKwh.{GrossKwh}
@@ -11,33 +11,27 @@ use Rattle.energy.specs.declared.NetKwh.{NetKwh}
 use Rattle.energy.specs.declared.HubKwh.{HubKwh}
 use Rattle.energy.specs.Energy.{netOf, hubOf, gateOf, grainsOf, payOf}
 
+-- taking a share off leaves at most the whole
+pub kept-le : (n share : ℕ) → n * (10000 - share) ≤ n * 10000
+kept-le n share = mul-le-mul-left n (omega arith)
+
 -- net is at most gross, and rises with it
 pub net-le : (gross : GrossKwh) (own : ℕ) → netOf gross own .0 ≤ gross .0
 unfolding netOf
-net-le gross own =
-    let h : gross .0 ≤ gross .0 = omega arith in
-    let k : 10000 - own ≤ 10000 = omega arith in
-    omega (arith, mul-le-mul h k)
+net-le gross own = omega (arith, kept-le (gross .0) own)
 
 pub net-mono : (gross more : GrossKwh) (own : ℕ) → own ≤ 10000 → gross .0 ≤ more .0 → netOf gross own .0 ≤ netOf more own .0
 unfolding netOf
-net-mono gross more own l h =
-    let k : 10000 - own ≤ 10000 - own = omega arith in
-    omega (arith, mul-le-mul h k)
+net-mono gross more own l h = omega (arith, mul-le-mul-right (10000 - own) h)
 
 -- hub energy: at most 10,000 grains a kWh, rising, and additive
 pub hub-le : (net : NetKwh) (loss : ℕ) → hubOf net loss .0 ≤ net .0 * 10000
 unfolding hubOf
-hub-le net loss =
-    let h : net .0 ≤ net .0 = omega arith in
-    let k : 10000 - loss ≤ 10000 = omega arith in
-    mul-le-mul h k
+hub-le net loss = kept-le (net .0) loss
 
 pub hub-mono : (net more : NetKwh) (loss : ℕ) → net .0 ≤ more .0 → hubOf net loss .0 ≤ hubOf more loss .0
 unfolding hubOf
-hub-mono net more loss h =
-    let k : 10000 - loss ≤ 10000 - loss = omega arith in
-    mul-le-mul h k
+hub-mono net more loss h = mul-le-mul-right (10000 - loss) h
 
 pub hub-add : (a b loss : ℕ) → hubOf (record { 0 = a + b }) loss .0 ≡ hubOf (record { 0 = a }) loss .0 + hubOf (record { 0 = b }) loss .0
 unfolding hubOf
@@ -74,9 +68,8 @@ module _ (commitment : HubKwh) (loss : ℕ) where
   unfolding grainsOf hubOf
   gate-le l =
       let twice : NetKwh = record { 0 = 2 * commitment .0 } in
-      let h : 2 * commitment .0 ≤ 2 * commitment .0 = omega arith in
       let k : 5000 ≤ 10000 - loss = omega arith in
-      gate-least twice (omega arith) (omega (arith, mul-le-mul h k))
+      gate-least twice (omega arith) (omega (arith, mul-le-mul-left (2 * commitment .0) k))
 
 -- V: nothing for nothing, rising, and at most 10,000 Rial a kWh
 module _ (cpf bar : ℕ) where
@@ -86,16 +79,11 @@ module _ (cpf bar : ℕ) where
 
   pub pay-mono : (k more : NetKwh) → k .0 ≤ more .0 → payOf k cpf bar ≤ payOf more cpf bar
   unfolding payOf
-  pay-mono k more h =
-      let c : cpf ≤ cpf = omega arith in
-      let b : bar ≤ bar = omega arith in
-      omega (arith, mul-le-mul (mul-le-mul h c) b)
+  pay-mono k more h = omega (arith, mul-le-mul-right bar (mul-le-mul-right cpf h))
 
   pub pay-le : (k : NetKwh) → cpf ≤ 10000 → bar ≤ 1000000 → payOf k cpf bar ≤ k .0 * 10000
   unfolding payOf
-  pay-le k c b =
-      let h : k .0 ≤ k .0 = omega arith in
-      omega (arith, mul-le-mul (mul-le-mul h c) b)
+  pay-le k c b = omega (arith, mul-le-mul (mul-le-mul-left (k .0) c) b)
 
   pub pay-most : (k : NetKwh) → k .0 ≤ 1000000 → cpf ≤ 10000 → bar ≤ 1000000 → payOf k cpf bar ≤ 10000000000
   pay-most k h c b = omega (arith, pay-le k c b)

@@ -32,14 +32,14 @@ module _ (o : Offer) (commitment : HubKwh) where
   pub cost-block : (i limit price end : ℕ) → IsBlock o commitment i limit price end → costTo o commitment end ≡ costTo o commitment i + (end - i) * price
   unfolding costTo
   cost-block i limit price end b =
-      sum-flat i end price (priceAt o commitment) (omega (arith, b .past)) (b .flat)
+      sum-flat i end (priceAt o commitment) (omega (arith, b .past)) price (b .flat)
 
   -- at most 10^7 a grain
   module _ (t : offerHolds o ≡ true) where
     pub cost-between-le : (a b : ℕ) → a ≤ b → costBetween o commitment a b ≤ (b - a) * 10000000
     unfolding costBetween costTo
     cost-between-le a b l =
-        omega (arith, sum-most a b 10000000 (priceAt o commitment) l (λ u h k. price-le o t commitment u))
+        omega (arith, sum-most a b (priceAt o commitment) l 10000000 (λ u h k. price-le o t commitment u))
 
     pub cost-le : (a : ℕ) → costTo o commitment a ≤ a * 10000000
     cost-le a = omega (arith, cost-first a, cost-between-le 0 a (omega arith))

@@ -10,8 +10,9 @@ use Rattle.finite.specs.Finite.{every}
 use Rattle.finite.proofs.Tests.{and-left, and-right, and-both, every-at, every-all}
 use Rattle.energy.specs.declared.HubKwh.{HubKwh}
 use Rattle.offer.specs.declared.Offer.{Offer}
-use Rattle.offer.specs.Offer.{quantityAt, stepPrice, inRange, stepInRange, inOrder, stepInOrder, offerHolds, lastQuantity}
+use Rattle.offer.specs.Offer.{quantityAt, stepPrice, stepsAllowed, inRange, stepInRange, inOrder, stepInOrder, offerHolds, lastQuantity}
 
+-- what an offer that passes its test keeps
 pub record Holds (o : Offer) : Type 0 where
   pub least : 1 ≤ o .steps
   pub most : o .steps ≤ 10
@@ -21,7 +22,11 @@ pub record Holds (o : Offer) : Type 0 where
   pub quantity-rises : (s : ℕ) → s + 1 < o .steps → quantityAt o s .0 < quantityAt o (s + 1) .0
   pub price-rises : (s : ℕ) → s + 1 < o .steps → stepPrice o s ≤ stepPrice o (s + 1)
 
--- a step's two tests as facts
+-- the tests of the number of steps, of a step and of two neighbours, as facts
+pub allowed : (steps : ℕ) → stepsAllowed steps ≡ true → (1 ≤ steps) × (steps ≤ 10)
+unfolding stepsAllowed
+allowed steps t = (leb-true _ _ (and-left _ _ t), leb-true _ _ (and-right (leb 1 steps) _ t))
+
 range-facts : (q : HubKwh) (p : ℕ) → inRange q p ≡ true → (1 ≤ q .0) × (q .0 ≤ 1000000) × (p ≤ 10000000)
 unfolding inRange
 range-facts q p t =
@@ -38,12 +43,12 @@ module _ (o : Offer) where
   unfolding offerHolds
   holds t =
       let number = and-left _ _ t in
-      let steps = and-right (leb 1 (o .steps) && leb (o .steps) 10) _ t in
+      let steps = and-right (stepsAllowed (o .steps)) _ t in
       let range : (s : ℕ) → s < o .steps → stepInRange o s ≡ true = every-at (o .steps) (stepInRange o) (and-left _ _ steps) in
       let order : (s : ℕ) → s < o .steps - 1 → stepInOrder o s ≡ true = every-at (o .steps - 1) (stepInOrder o) (and-right (every (o .steps) (stepInRange o)) _ steps) in
       record {
-        least = leb-true _ _ (and-left _ _ number);
-        most = leb-true _ _ (and-right (leb 1 (o .steps)) _ number);
+        least = allowed (o .steps) number .0;
+        most = allowed (o .steps) number .1;
         quantity-least = λ s l. range-facts _ _ (range s l) .0;
         quantity-most = λ s l. range-facts _ _ (range s l) .1;
         price-most = λ s l. range-facts _ _ (range s l) .2;
@@ -52,7 +57,7 @@ module _ (o : Offer) where
       }
 
   pub holds-back : Holds o → offerHolds o ≡ true
-  unfolding offerHolds inRange inOrder
+  unfolding offerHolds stepsAllowed inRange inOrder
   holds-back h =
       and-both _ _ (and-both _ _ (le-leb 1 (o .steps) (h .least)) (le-leb (o .steps) 10 (h .most)))
       (and-both _ _
@@ -67,7 +72,7 @@ module _ (o : Offer) where
 
   -- the last quantity is that of the last step, and within 1 to 10^6
   pub last-is : Holds o → lastQuantity o ≡ quantityAt o (o .steps - 1)
-  unfolding lastQuantity
+  unfolding lastQuantity stepsAllowed
   last-is h =
       let number = and-both _ _ (le-leb 1 (o .steps) (h .least)) (le-leb (o .steps) 10 (h .most)) in
       rw number

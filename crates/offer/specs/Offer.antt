@@ -23,6 +23,10 @@ quantityAt o s = getD (o .quantity) s (record { 0 = 0 })
 abbrev pub stepPrice : Offer → ℕ → ℕ
 stepPrice o s = getD (o .price) s 0
 
+-- 01, Energies and sheet: 1 to 10 pairs
+unfoldable pub stepsAllowed : ℕ → Bool
+stepsAllowed steps = leb 1 steps && leb steps 10
+
 -- 01, Energies and sheet: cumulative hub kWh 1–10^6; Rial/MWh 0–10^7
 unfoldable pub inRange : HubKwh → ℕ → Bool
 inRange quantity price = (leb 1 (quantity .0) && leb (quantity .0) 1000000) && leb price 10000000
@@ -37,12 +41,12 @@ inOrder quantity price nextQuantity nextPrice = ltb (quantity .0) (nextQuantity 
 abbrev pub stepInOrder : Offer → ℕ → Bool
 stepInOrder o s = inOrder (quantityAt o s) (stepPrice o s) (quantityAt o (s + 1)) (stepPrice o (s + 1))
 
--- 01, Energies and sheet: an offer is 1 to 10 pairs quantity:price, in these ranges and this order
+-- 01, Energies and sheet: an offer is 1 to 10 pairs quantity:price, each in these ranges, in this order
 unfoldable pub offerHolds : Offer → Bool
 offerHolds o =
-    (leb 1 (o .steps) && leb (o .steps) 10)
+    stepsAllowed (o .steps)
     && (every (o .steps) (stepInRange o) && every (o .steps - 1) (stepInOrder o))
 
 -- the quantity of the last step, 0 where the number of steps is not 1 to 10
 unfoldable pub lastQuantity : Offer → HubKwh
-lastQuantity o = cond (leb 1 (o .steps) && leb (o .steps) 10) (quantityAt o (o .steps - 1)) (record { 0 = 0 })
+lastQuantity o = cond (stepsAllowed (o .steps)) (quantityAt o (o .steps - 1)) (record { 0 = 0 })

@@ -3,7 +3,7 @@ ghost use mathlib.Core.Path.{_≡_};
 ghost use mathlib.Core.Bool.{true};
 ghost use Prim.Native.Nat.{ℕ, _-_, _≤_, _<_};
 ghost use Rattle.finite.specs.Finite.{every};
-ghost use Rattle.offer.specs.Offer.{noOffer, inRange, inOrder, stepInRange, stepInOrder, offerHolds, lastQuantity};
+ghost use Rattle.offer.specs.Offer.{noOffer, stepsAllowed, inRange, inOrder, stepInRange, stepInOrder, offerHolds, lastQuantity};
 ghost use Rattle.offer.specs.Modified.{OnStep, IsBlock, costBetween};
 use energy::HubKwh;
 
@@ -31,8 +31,18 @@ pub fn no_offer() -> Offer
     }
 }
 
+// Whether an offer may have so many steps.
+fn steps_allowed(steps: usize) -> bool
+    ensures { λ r. ⌜ r ≡ stepsAllowed steps ⌝ }
+{
+    if steps < 1 {
+        return false;
+    }
+    steps <= 10
+}
+
 // Whether a step's quantity and price are in their ranges.
-pub fn in_range(quantity: HubKwh, price: u64) -> bool
+fn in_range(quantity: HubKwh, price: u64) -> bool
     ensures { λ r. ⌜ r ≡ inRange quantity price ⌝ }
 {
     if quantity.0 < 1 {
@@ -45,7 +55,7 @@ pub fn in_range(quantity: HubKwh, price: u64) -> bool
 }
 
 // Whether a step may be followed by the next one: its quantity is less, its price no more.
-pub fn in_order(quantity: HubKwh, price: u64, next_quantity: HubKwh, next_price: u64) -> bool
+fn in_order(quantity: HubKwh, price: u64, next_quantity: HubKwh, next_price: u64) -> bool
     ensures { λ r. ⌜ r ≡ inOrder quantity price «next_quantity» «next_price» ⌝ }
 {
     if quantity.0 < next_quantity.0 {
@@ -96,10 +106,7 @@ fn steps_in_order(offer: Offer) -> bool
 pub fn offer_holds(offer: Offer) -> bool
     ensures { λ r. ⌜ r ≡ offerHolds offer ⌝ }
 {
-    if offer.steps < 1 {
-        return false;
-    }
-    if offer.steps > 10 {
+    if !steps_allowed(offer.steps) {
         return false;
     }
     if !steps_in_range(offer) {
@@ -112,10 +119,7 @@ pub fn offer_holds(offer: Offer) -> bool
 pub fn last_quantity(offer: Offer) -> HubKwh
     ensures { λ r. ⌜ r ≡ lastQuantity offer ⌝ }
 {
-    if offer.steps < 1 {
-        return HubKwh(0);
-    }
-    if offer.steps > 10 {
+    if !steps_allowed(offer.steps) {
         return HubKwh(0);
     }
     let last = offer.steps - 1;

@@ -1,9 +1,8 @@
 -- A product of bounded factors fits; the result is the definition.
 -- Assumes nothing.
-use Prim.Native.Nat.{_≤_, _-_}
-use native.Mathlib.Nat.{mul-le-mul}
 use native.Mathlib.Omega.{arith}
 use Rattle.energy.specs.Energy.{netOf}
+use Rattle.energy.proofs.Laws.{kept-le}
 use borrow.Author.Needs.{needs}
 use Rattle.energy.proofs.net_of.Statement.{statement}
 use Rattle.energy.proofs.net_of.Tie as tie
@@ -12,11 +11,7 @@ sub-kept : tie.Need-sub-kept
 sub-kept c = search needs
 
 mul-product : tie.Need-mul-product
-mul-product c =
-    let a = c .before .args in
-    let h : a .gross .0 ≤ 1000000000 = omega arith in
-    let k : 10000 - a .own ≤ 10000 = omega arith in
-    omega (arith, mul-le-mul h k)
+mul-product c = omega (arith, kept-le (c .before .args .gross .0) (c .before .args .own))
 
 returns : tie.Need-returns
 unfolding netOf

@@ -21,7 +21,7 @@ returns c =
     let e = ap (λ (g : HubGrains). g .0) (c .before .before .before .grains-of .ensures) in
     let m = c .least .ensures in
     committed-block (a .t1) (a .commitment) (a .i) (a .limit) (c .least .result)
-    (m .1 (a .i) (c .before .if1 .taken) (c .before .before .before .before .pre .2)) (m .0 .1) (omega (arith, m .0 .0))
+    (m .1 (a .i) (omega arith) (omega arith)) (m .0 .1) (omega (arith, m .0 .0))
 
 sub-last : tie.Need-sub-last
 sub-last c = holds (c .before .before .before .args .t1) (c .before .before .before .pre .0) .least

@@ -1,39 +1,36 @@
 -- Each branch settles one of the definition's tests, the last call is the one that is left.
 -- Assumes nothing.
-use borrow.Author.Needs.{needs}
 use mathlib.Core.Path.{sym, _∙_}
-use borrow.Author.Tests.{le-leb, lt-leb, not-true, not-false}
+use borrow.Author.Needs.{needs}
+use borrow.Author.Tests.{not-true, not-false}
 use Rattle.offer.specs.Offer.{offerHolds}
+use Rattle.offer.proofs.Steps.{allowed}
 use Rattle.offer.proofs.offer_holds.Statement.{statement}
 use Rattle.offer.proofs.offer_holds.Tie as tie
 
+steps-allowed-requires : tie.Need-steps-allowed-requires
+steps-allowed-requires c κs = search needs
+
 returns : tie.Need-returns
 unfolding offerHolds
-returns c = rw (lt-leb 1 (c .before .before .args .offer .steps) (c .if1 .taken))
+returns c = rw (sym (c .before .steps-allowed .ensures) ∙ not-true _ (c .if1 .taken))
+
+steps-in-range-requires : tie.Need-steps-in-range-requires
+steps-in-range-requires c κs = allowed _ (sym (c .before .steps-allowed .ensures) ∙ not-false _ (c .if1 .left)) .1
 
 returns-2 : tie.Need-returns-2
 unfolding offerHolds
 returns-2 c =
-    let n = c .before .before .before .before .args .offer .steps in
-    rw (le-leb 1 n (c .before .before .if1 .left), lt-leb n 10 (c .if2 .taken))
+    rw (sym (c .before .before .before .steps-allowed .ensures) ∙ not-false _ (c .before .before .if1 .left), sym (c .before .steps-in-range .ensures) ∙ not-true _ (c .if2 .taken))
 
-steps-in-range-requires : tie.Need-steps-in-range-requires
-steps-in-range-requires c κs = search needs
+steps-in-order-requires : tie.Need-steps-in-order-requires
+steps-in-order-requires c κs = allowed _ (sym (c .before .before .before .steps-allowed .ensures) ∙ not-false _ (c .before .before .if1 .left))
 
 returns-3 : tie.Need-returns-3
 unfolding offerHolds
 returns-3 c =
-    let n = c .before .before .before .before .before .before .args .offer .steps in
-    rw (le-leb 1 n (c .before .before .before .before .if1 .left), le-leb n 10 (c .before .before .if2 .left), sym (c .before .steps-in-range .ensures) ∙ not-true _ (c .if3 .taken))
-
-steps-in-order-requires : tie.Need-steps-in-order-requires
-steps-in-order-requires c κs = search needs
-
-returns-4 : tie.Need-returns-4
-unfolding offerHolds
-returns-4 c =
-    let n = c .before .before .before .before .before .before .before .args .offer .steps in
-    rw (le-leb 1 n (c .before .before .before .before .before .if1 .left), le-leb n 10 (c .before .before .before .if2 .left), sym (c .before .before .steps-in-range .ensures) ∙ not-false _ (c .before .if3 .left)) (c .steps-in-order .ensures)
+    rw (sym (c .before .before .before .before .steps-allowed .ensures) ∙ not-false _ (c .before .before .before .if1 .left), sym (c .before .before .steps-in-range .ensures) ∙ not-false _ (c .before .if2 .left)) (c .steps-in-order .ensures)
 
 pub offer-holds-spec : {M : Type 1} → statement M
-offer-holds-spec = tie.close (tie.spec returns returns-2 steps-in-range-requires returns-3 steps-in-order-requires returns-4)
+offer-holds-spec =
+    tie.close (tie.spec steps-allowed-requires returns steps-in-range-requires returns-2 steps-in-order-requires returns-3)
