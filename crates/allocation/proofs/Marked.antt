@@ -4,20 +4,21 @@ use mathlib.Core.Path.{_≡_, refl}
 use mathlib.Core.List.{List, _∷_}
 use Prim.Native.Nat.{ℕ}
 use lib.ListN.{replicate}
-use Rattle.finite.specs.Finite.{sum, tabulate, every}
+use Rattle.finite.specs.Finite.{sum, tabulate}
 use Rattle.energy.specs.declared.NetKwh.{NetKwh}
 use Rattle.energy.specs.declared.HubKwh.{HubKwh}
 use Rattle.energy.specs.declared.HubGrains.{HubGrains}
 use Rattle.energy.specs.Energy.{hubOf, grainsOf}
 use Rattle.units.specs.Units.{isMember, memberAt}
 use Rattle.offer.specs.declared.Offer.{Offer}
-use Rattle.offer.specs.Offer.{noOffer, inRange, inOrder, offerHolds}
+use Rattle.offer.specs.Offer.{noOffer}
 use Rattle.offer.specs.Modified.{priceFrom, priceAt}
+use Rattle.offer.proofs.Quick.{endFrom, endOf}
 use Rattle.apportion.specs.Shares.{largest, addOnes, shares}
 use Rattle.allocation.specs.declared.Plant.{Plant}
 use Rattle.allocation.specs.Fill.{better, best}
-use Rattle.allocation.specs.Allocation.{netEnergy, plantEnergy, realSum, excess, weightAt, excessShares, ceilingAt, ceilings, ceilings-is, priceOf, energies}
-use Rattle.allocation.proofs.Quick.{roundTo, rounds, stepEnd, endOf, energies-quick}
+use Rattle.allocation.specs.Allocation.{netEnergy, plantEnergy, realSum, excess, weightAt, excessShares, ceilingAt, ceilings, ceilings-is, energies}
+use Rattle.allocation.proofs.Quick.{roundTo, rounds, energies-quick}
 
 abbrev kwh : ℕ → NetKwh
 kwh n = record { 0 = n }
@@ -62,7 +63,7 @@ first-ceilings = ceilings-is (kwh 320000) (kwh 0) first
 
 -- the energies of the first case
 pub marked-energies : energies (kwh 320000) (kwh 0) first ≡ three (grains 781000000) (grains 1100000000) (grains 1287000000) (grains 0)
-unfolding netEnergy plantEnergy hubOf grainsOf every inRange inOrder offerHolds priceOf priceAt priceFrom better best roundTo rounds stepEnd endOf
+unfolding netEnergy plantEnergy hubOf grainsOf priceAt priceFrom endFrom endOf better best roundTo rounds
 marked-energies =
     energies-quick (kwh 320000) (kwh 0) first 12 (three (grains 1188000000) (grains 1485000000) (grains 1287000000) (grains 0))
-    (three (grains 781000000) (grains 1100000000) (grains 1287000000) (grains 0)) first-ceilings refl refl
+    (three (grains 781000000) (grains 1100000000) (grains 1287000000) (grains 0)) first-ceilings refl

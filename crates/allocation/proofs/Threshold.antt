@@ -1,10 +1,10 @@
 -- The fill places exactly h grains, each unit within its ceiling, and no other split costs less. Each grain placed keeps a
 -- threshold: no grain that is placed costs more, and none that has room costs less.
 -- Assumes nothing.
-use mathlib.Core.Path.{_≡_, sym, subst, _∙_, ap}
+use mathlib.Core.Path.{_≡_, sym, _∙_, ap}
 use mathlib.Core.List.{List}
 use Prim.Native.Nat.{ℕ, zero, suc, _+_, _*_, _-_, _≤_, _<_}
-use native.Mathlib.Nat.{add-zero, add-suc, mul-add, mul-zero, mul-suc}
+use native.Mathlib.Nat.{mul-add, mul-suc}
 use native.Mathlib.Numerals.{add-one}
 use native.Mathlib.Decide.{decLe, ℕ-discrete}
 use native.Mathlib.Omega.{arith}
@@ -13,7 +13,7 @@ use lib.Dec.{ltb}
 use lib.ListN.{length, length-set, replicate, length-replicate, getD-replicate}
 use lib.Seq.{getD-set-same, getD-set-other}
 use Rattle.finite.specs.Finite.{sum}
-use Rattle.finite.proofs.Sums.{sum-le, sum-raise, sum-zero}
+use Rattle.finite.proofs.Sums.{climb, sum-le, sum-raise, sum-zero}
 use Rattle.energy.specs.declared.HubGrains.{HubGrains}
 use Rattle.allocation.specs.declared.Pick.{Pick}
 use Rattle.allocation.specs.declared.Pick.the-variants.{Nothing as none, At as at}
@@ -29,30 +29,17 @@ module _ (a : List HubGrains) (k m : ℕ) where
   more-other u d = ap (λ (g : HubGrains). g .0) (getD-set-other a k u (record { 0 = grainsAt a k + m }) (record { 0 = 0 }) d)
 
 -- grains up to a cost at most p each, those from a up to c at least p: x in the place of a saves at most p for each grain less
-module _ (f : ℕ → ℕ) (p : ℕ) where
-  up : (n d : ℕ) → ((i : ℕ) → i < n + d → f i ≤ p) → sum (n + d) f ≤ sum n f + p * d
-  unfolding sum
-  up n zero h = rw (add-zero, mul-zero) (omega arith)
-  up n (suc d) h = rw (add-suc, mul-suc) (omega (arith, up n d (λ i l. h i (omega arith)), h (n + d) (omega arith)))
-
-  down : (n d : ℕ) → ((i : ℕ) → n ≤ i → i < n + d → p ≤ f i) → sum n f + p * d ≤ sum (n + d) f
-  unfolding sum
-  down n zero h = rw (add-zero, mul-zero) (omega arith)
-  down n (suc d) h =
-      rw (add-suc, mul-suc) (omega (arith, down n d (λ i k l. h i k (omega arith)), h (n + d) (omega arith) (omega arith)))
-
-  against : (a c x : ℕ) → ((i : ℕ) → i < a → f i ≤ p) → ((i : ℕ) → a ≤ i → i < c → p ≤ f i) → x ≤ c → sum a f + p * x ≤ sum x f + p * a
-  against a c x low high l = go (decLe x a)
-    where
-      fewer : (d : ℕ) → x + d ≡ a → sum a f + p * x ≤ sum x f + p * a
-      fewer d e = rw (← e) (rw mul-add (omega (arith, up x d (λ i h. low i (omega arith)))))
-
-      more : (d : ℕ) → a + d ≡ x → sum a f + p * x ≤ sum x f + p * a
-      more d e = rw (← e) (rw mul-add (omega (arith, down a d (λ i k h. high i k (omega arith)))))
-
-      go : Dec (x ≤ a) → sum a f + p * x ≤ sum x f + p * a
-      go (yes h) = fewer (a - x) (omega arith)
-      go (no h) = more (x - a) (omega arith)
+against : (f : ℕ → ℕ) (p a c x : ℕ) → ((i : ℕ) → i < a → f i ≤ p) → ((i : ℕ) → a ≤ i → i < c → p ≤ f i) → x ≤ c
+    → sum a f + p * x ≤ sum x f + p * a
+unfolding sum
+against f p a c x low high l = go (decLe x a)
+  where
+    go : Dec (x ≤ a) → sum a f + p * x ≤ sum x f + p * a
+    go (yes h) =
+        climb (λ k. sum k f + p * x ≤ sum x f + p * k) x a h (omega arith) (λ k _ b i. rw mul-suc (omega (arith, i, low k b)))
+    go (no h) =
+        climb (λ k. sum a f + p * k ≤ sum k f + p * a) a x (omega arith) (omega arith)
+        (λ k b b' i. rw mul-suc (omega (arith, i, high k b (omega arith))))
 
 -- the prices of a unit's grains below its ceiling never fall
 abbrev pub Rising : (ℕ → ℕ → ℕ) → (ℕ → ℕ) → ℕ → Type 0
@@ -82,14 +69,9 @@ module _ (price : ℕ → ℕ → ℕ) (ceiling : ℕ → ℕ) (n : ℕ) where
       (omega (arith, weighed p x y h w m (omega arith), against (price m) p (x m) (ceiling m) (y m) (h .low m l) (h .high m l) (w m l)))
 
   module _ (rises : Rising price ceiling n) where
-    climb : (u i d : ℕ) → u < n → i + d < ceiling u → price u i ≤ price u (i + d)
-    climb u i zero lu l = rw add-zero (omega arith)
-    climb u i (suc d) lu l = rw add-suc (let l' : suc (i + d) < ceiling u = rw (← add-suc i d) l in omega (arith, climb u i d lu (omega arith), rises u (i + d) lu l'))
-
-    pub rising : (u i j : ℕ) → u < n → i ≤ j → j < ceiling u → price u i ≤ price u j
+    rising : (u i j : ℕ) → u < n → i ≤ j → j < ceiling u → price u i ≤ price u j
     rising u i j lu l lc =
-        let e : i + (j - i) ≡ j = omega arith in
-        subst (λ (k : ℕ). price u i ≤ price u k) e (climb u i (j - i) lu (omega arith))
+        climb (λ k. price u i ≤ price u k) i j l (omega arith) (λ k _ b h. omega (arith, h, rises u k lu (omega arith)))
 
     -- one grain more for the best unit: the threshold is now that grain's price
     module _ (a : List HubGrains) (p k : ℕ) (long : length a ≡ n) (h : Level price ceiling n p (grainsAt a))

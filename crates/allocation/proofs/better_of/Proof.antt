@@ -30,13 +30,15 @@ array-copy-out-mine c = search needs
 
 returns-2 : tie.Need-returns-2
 returns-2 c =
+    let a = c .before .before .before .before .before .before .before .before .args in
     let f = c .before .before .before .before .before .before .found .given in
-    better-new (blockPrice (c .before .before .before .before .before .before .before .before .args .t1)) _ _ (f .0 .0) (f .1) (c .if1 .taken)
+    better-new (blockPrice (a .t1)) (a .found) (a .v) (f .0 .0) (f .1) (omega (arith, c .if1 .taken))
 
 returns-3 : tie.Need-returns-3
 returns-3 c =
+    let a = c .before .before .before .before .before .before .before .before .args in
     let f = c .before .before .before .before .before .before .found .given in
-    better-kept (blockPrice (c .before .before .before .before .before .before .before .before .args .t1)) _ _ (f .0 .0) (f .1) (c .if1 .left)
+    better-kept (blockPrice (a .t1)) (a .found) (a .v) (f .0 .0) (f .1) (omega (arith, c .if1 .left))
 
 pub better-of-spec : {M : Type 1} → statement M
 better-of-spec =

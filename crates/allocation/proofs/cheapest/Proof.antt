@@ -60,9 +60,9 @@ loop-again c =
     ⊎-elim
     (λ w. (
       omega arith,
-      w .2 ∙ (w .1 .ensures ∙ (ap (λ (q : Pick). better next q (l .v)) (l .inv .1) ∙ best-free next room (l .v) (lt-ltb _ _ (w .0 .taken)))),
+      w .2 ∙ (w .1 .ensures ∙ (ap (λ (q : Pick). better next q (l .v)) (l .inv .1) ∙ best-free next room (l .v) (lt-ltb (grainsAt (a .t1) (l .v)) (grainsAt (a .t2) (l .v)) (omega (arith, w .0 .taken))))),
     ))
-    (λ w. (omega arith, w .1 ∙ (l .inv .1 ∙ best-full next room (l .v) (le-ltb _ _ (w .0 .left)))))
+    (λ w. (omega arith, w .1 ∙ (l .inv .1 ∙ best-full next room (l .v) (le-ltb (grainsAt (a .t1) (l .v)) (grainsAt (a .t2) (l .v)) (omega (arith, w .0 .left))))))
     (c .if1 .came)
 
 returns : tie.Need-returns Inv-loop μ-loop
