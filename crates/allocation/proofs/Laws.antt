@@ -8,19 +8,31 @@ use native.Mathlib.Omega.{arith}
 use lib.ListN.{length, getD}
 use Rattle.finite.specs.Finite.{sum}
 use Rattle.finite.proofs.Sums.{sum-has}
+use Rattle.finite.proofs.Tables.{length-tabulate}
 use Rattle.energy.specs.declared.NetKwh.{NetKwh}
 use Rattle.energy.proofs.Laws.{hub-le}
 use Rattle.units.specs.Units.{memberAt}
 use Rattle.offer.specs.Offer.{pastOffer}
+use Rattle.offer.specs.Modified.{costTo}
 use Rattle.offer.proofs.Prices.{price-rises}
 use Rattle.allocation.specs.declared.Plant.{Plant}
-use Rattle.allocation.specs.Fill.{grainsAt, fill}
-use Rattle.allocation.specs.Allocation.{netEnergy, plantEnergy, ceilings, priceOf, energies, energies-is, Allocated, PlantHolds}
+use Rattle.allocation.specs.Fill.{grainsAt, costOf}
+use Rattle.allocation.specs.Allocation.{netEnergy, plantEnergy, ceilingAt, ceilings, ceilings-is, priceOf, energies, energies-is, Allocated, PlantHolds}
 use Rattle.allocation.proofs.Threshold.{Rising, fill-cheapest, fill-length}
 use Rattle.allocation.proofs.Weights.{ceilings-reach, ceiling-none}
 
+-- a split's cost, by the costs of the modified offers
+pub cost-is : (plant : Plant) (x : ℕ → ℕ)
+    → costOf (priceOf plant) 8 x
+    ≡ sum 8 (λ k. costTo (getD (plant .offer) k pastOffer) (getD (plant .commitment) k (record { 0 = 0 })) (x k))
+unfolding priceOf costTo
+cost-is plant x = refl
+
 module _ (net reverse : NetKwh) (plant : Plant) where
   -- there is a place for each of eight units
+  pub ceilings-length : length (ceilings net reverse plant) ≡ 8
+  ceilings-length = ap length (ceilings-is net reverse plant) ∙ length-tabulate 8 (ceilingAt net reverse plant)
+
   pub energies-length : length (energies net reverse plant) ≡ 8
   energies-length =
       ap length (energies-is net reverse plant)

@@ -47,13 +47,13 @@ realSum plant = record { 0 = sum 8 (λ k. netAt (plant .units) (plant .real) k .
 unfoldable pub excess : NetKwh → NetKwh → Plant → HubGrains
 excess net reverse plant = hubOf (above (netEnergy net reverse) (realSum plant)) (plant .loss)
 
--- by `real`, or by `nominal` where R = 0
+-- what a unit's share of X goes by: `real`, or `nominal` where R = 0
 unfoldable pub weightAt : Plant → ℕ → ℕ
 weightAt plant k =
     cond (eqb (realSum plant .0) 0) (grossAt (plant .units) (plant .nominal) k .0)
     (netAt (plant .units) (plant .real) k .0)
 
--- its share of X, by these weights; the shares: crate apportion
+-- the shares of X by these weights (crate apportion)
 unfoldable pub excessShares : NetKwh → NetKwh → Plant → List ℕ
 excessShares net reverse plant = shares (tabulate 8 (weightAt plant)) (excess net reverse plant .0)
 
@@ -94,7 +94,8 @@ pub energies-is : (net reverse : NetKwh) (plant : Plant)
 unfolding energies
 energies-is net reverse plant = refl
 
--- what a sheet's ranges and orders, a record's ranges and a book's commitments give of a unit of the plant
+-- for the code and the laws: what the sheet's ranges and orders, the record's ranges and the book's commitments give of a unit, and of
+-- the plant
 pub record UnitHolds (real : NetKwh) (nominal : GrossKwh) (commitment : HubKwh) (o : Offer) : Type 0 where
   pub able : real .0 ≤ 1000000
   pub rated : (1 ≤ nominal .0) × (nominal .0 ≤ 1000000)
