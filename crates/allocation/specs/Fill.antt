@@ -19,16 +19,17 @@ grainsAt a u = getD a u (record { 0 = 0 }) .0
 abbrev pub withMore : List HubGrains → ℕ → ℕ → List HubGrains
 withMore a u m = set a u (record { 0 = grainsAt a u + m })
 
--- of the units among the first n that have room, the one whose next grain has the lowest price; at equal price the lowest unit
+-- the unit picked so far, or unit v, which has room, where its next grain is cheaper; `next u` is the price of unit u's next grain
 unfoldable pub better : (ℕ → ℕ) → Pick → ℕ → Pick
 better next none v = at v
 better next (at u) v = cond (ltb (next v) (next u)) (at v) (at u)
 
+-- of the first n units, among those that have room, the one whose next grain has the lowest price; at equal price the lower unit
 unfoldable pub best : (ℕ → ℕ) → (ℕ → Bool) → ℕ → Pick
 best next room zero = none
 best next room (suc n) = let u = best next room n in cond (room n) (better next u n) u
 
--- a unit has room below its ceiling
+-- the unit that gets the next grain: a unit has room below its ceiling
 abbrev pub nextUnit : (ℕ → ℕ → ℕ) → (ℕ → ℕ) → ℕ → List HubGrains → Pick
 nextUnit price ceiling n a = best (λ u. price u (grainsAt a u)) (λ u. ltb (grainsAt a u) (ceiling u)) n
 

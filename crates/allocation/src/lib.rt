@@ -81,7 +81,7 @@ fn real_sum(units: u64, real: [NetKwh; 8]) -> NetKwh
     NetKwh(sum)
 }
 
-// What the unit at place k is weighed by: `real`, or `nominal` where R is 0; outside the plant 0.
+// What the share of the unit at place k goes by: `real`, or `nominal` where R, here `reals`, is 0; outside the plant 0.
 fn weight_at(units: u64, real: NetKwh, nominal: GrossKwh, reals: NetKwh, k: usize) -> u64
     ensures { λ r. ⌜ r ≡ cond (eqb (reals .0) 0) (cond (memberAt units k) nominal (record { 0 = 0 }) .0) (cond (memberAt units k) real (record { 0 = 0 }) .0) ⌝ }
 {
@@ -94,6 +94,7 @@ fn weight_at(units: u64, real: NetKwh, nominal: GrossKwh, reals: NetKwh, k: usiz
     0
 }
 
+// What each unit's share goes by.
 fn weights_of(units: u64, real: [NetKwh; 8], nominal: [GrossKwh; 8], reals: NetKwh) -> [u64; 8]
     ensures { λ r. ⌜ r ≡ tabulate 8 (λ (k : ℕ). cond (eqb (reals .0) 0) (grossAt units nominal k .0) (netAt units real k .0)) ⌝ }
 {
@@ -142,6 +143,7 @@ pub fn ceilings(net: NetKwh, reverse: NetKwh, plant: Plant) -> [HubGrains; 8]
     with_shares(units, real, loss, shares)
 }
 
+// The lesser of two numbers.
 fn least(a: u64, b: u64) -> u64
     ensures { λ r. ⌜ (r ≤ a) × (r ≤ b) ⌝ }
     ensures { λ r. ⌜ ((x : ℕ) → x < a → x < b → x < r) ⌝ }
@@ -217,7 +219,7 @@ fn cheapest(energies: [HubGrains; 8], ceilings: [HubGrains; 8], blocks: [Block; 
     found
 }
 
-// The fill, a block or what is left of the total at a time; only the unit that was filled gets its next block.
+// The fill, a block or what is left of the total at a time; then only the unit that was filled gets its next block.
 fn fill(
     offers: [Offer; 8],
     commitments: [HubKwh; 8],
