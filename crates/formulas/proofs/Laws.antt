@@ -1,9 +1,13 @@
 -- What the crates above use of the items: how large each can be.
 -- Assumes nothing.
+use mathlib.Core.Path.{_≡_, sym, _∙_}
 use mathlib.Core.Bool.{Bool, true, false}
 use Prim.Native.Nat.{ℕ, _+_, _*_, _-_, _≤_, _<_}
 use native.Mathlib.Nat.{mul-le-mul, mul-le-mul-right}
+use native.Mathlib.Decide.{decLt}
 use native.Mathlib.Omega.{arith}
+use borrow.Author.Tests.{lt-ltb, le-ltb}
+use lib.Dec.{ltb}
 use lib.ListN.{getD}
 use Rattle.finite.specs.Finite.{sum}
 use Rattle.finite.proofs.Sums.{sum-has}
@@ -12,6 +16,14 @@ use Rattle.energy.specs.declared.NetKwh.{NetKwh}
 use Rattle.energy.proofs.Laws.{pay-most}
 use Rattle.formulas.specs.declared.Deviations.{Deviations}
 use Rattle.formulas.specs.Items.{kinds, deviationOf, Bounded, energyPay, availability, declarationCeiling, refundKwh, refund, countedDeviation, weighted, drawnPay}
+
+-- a difference is over 0 where its first number is the larger
+pub over-test : (a b : ℕ) → ltb 0 (a - b) ≡ ltb b a
+over-test a b = go (decLt b a)
+  where
+    go : Dec (b < a) → ltb 0 (a - b) ≡ ltb b a
+    go (yes l) = let h : 0 < a - b = omega arith in lt-ltb 0 (a - b) h ∙ sym (lt-ltb b a l)
+    go (no l) = let h : a - b ≤ 0 = omega arith in let k : a ≤ b = omega arith in le-ltb 0 (a - b) h ∙ sym (le-ltb b a k)
 
 -- what counts of a deviation on a repair day is at most the deviation
 pub exempt-le : (repair kwh : ℕ) → (1 - repair) * kwh ≤ kwh

@@ -149,7 +149,8 @@ pub fn counted_deviation(d: Deviations, repair: u64) -> NetKwh
     NetKwh(of_kind(d, 2) + of_kind(d, 3) + unless_repair(repair, of_kind(d, 6)))
 }
 
-// Whether the counted deviation is charged: over 2,000 kWh, or over a twentieth of the reading or, unmeasured, of the unit's energy.
+// Whether the counted deviation is charged: over 2,000 kWh, or twenty times it over the reading; of an unmeasured unit, twenty times it
+// at the hub over the unit's energy.
 pub fn is_charged(q: NetKwh, measured: bool, reading: NetKwh, energy: HubGrains, loss: u64) -> bool
     requires { ⌜ (q .0 ≤ 1000000000000) × (loss ≤ 10000) ⌝ }
     ensures { λ r. ⌜ r ≡ isCharged q measured reading energy loss ⌝ }
@@ -161,7 +162,9 @@ pub fn is_charged(q: NetKwh, measured: bool, reading: NetKwh, energy: HubGrains,
     if measured {
         return twenty > reading.0;
     }
-    twenty * (10000 - loss) > energy.0
+    let kept = 10000 - loss;
+    let over = above(twenty * kept, energy.0);
+    over > 0
 }
 
 // The weighted deviation W, in tenths of a kWh.
