@@ -1,3 +1,0 @@
-pub mod Table
-pub mod Due
-pub mod Whole

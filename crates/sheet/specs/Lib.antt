@@ -1,4 +1,0 @@
-pub mod Limits
-pub mod Rows
-pub mod Day
-pub mod Ranges
