@@ -58,14 +58,16 @@ pub record Ordered (due : List Line → Row) (lines : List Line) : Type 0 where
 pub record Onward (text : List ℕ) (due : List Line → Row) (n : ℕ) (s t : Reading) : Type 0 where
   pub was-good : t .refusal ≡ 0 → s .refusal ≡ 0
   pub counted : t .refusal ≡ 0 → length (t .lines) ≡ length (s .lines) + n
+  pub longer : length (s .lines) ≤ length (t .lines)
   pub further : t .refusal ≡ 0 → s .at + n ≤ t .at
   pub number : s .refusal ≤ 4 → t .refusal ≤ 4
+  pub earlier : (k : ℕ) → k < length (s .lines) → lineOf (t .lines) k ≡ lineOf (s .lines) k
   pub inside : s .at ≤ length text → t .at ≤ length text
   pub in-order : Ordered due (s .lines) → Ordered due (t .lines)
 
 module _ (text : List ℕ) (due : List Line → Row) where
-  longer : (lines : List Line) (l : Line) → Ordered due lines → Keeps (due lines) l → Ordered due (lines ++ (l ∷ []))
-  longer lines l o h = record { keeps = λ k b. each k (omega (arith, length-append lines (l ∷ []))) }
+  extended : (lines : List Line) (l : Line) → Ordered due lines → Keeps (due lines) l → Ordered due (lines ++ (l ∷ []))
+  extended lines l o h = record { keeps = λ k b. each k (omega (arith, length-append lines (l ∷ []))) }
     where
       each : (k : ℕ) → k < suc (length lines) → Keeps (due (take k (lines ++ (l ∷ [])))) (lineOf (lines ++ (l ∷ [])) k)
       each =
@@ -78,8 +80,10 @@ module _ (text : List ℕ) (due : List Line → Row) where
       rw e (record {
         was-good = o .was-good;
         counted = λ g. absurd (r g);
+        longer = o .longer;
         further = λ g. absurd (r g);
         number = o .number;
+        earlier = o .earlier;
         inside = o .inside;
         in-order = o .in-order;
       })
@@ -87,19 +91,23 @@ module _ (text : List ℕ) (due : List Line → Row) where
       rw e (record {
         was-good = λ z. absurd (r z);
         counted = λ z. absurd (r z);
+        longer = o .longer;
         further = λ z. absurd (r z);
         number = λ h. b;
+        earlier = o .earlier;
         inside = o .inside;
         in-order = o .in-order;
       })
   one-more n s t o (taken l g b k e) =
       rw e (record {
         was-good = λ z. o .was-good g;
+        longer = omega (arith, length-append (t .lines) (l ∷ []), o .longer);
         counted = λ z. omega (arith, length-append (t .lines) (l ∷ []), o .counted g);
         further = λ z. omega (arith, o .further g);
         number = λ h. omega arith;
+        earlier = λ i h. List·getD-append (t .lines) (l ∷ []) (noLine 0) i (omega (arith, o .longer)) ∙ o .earlier i h;
         inside = λ h. b;
-        in-order = λ h. longer (t .lines) l (o .in-order h) k;
+        in-order = λ h. extended (t .lines) l (o .in-order h) k;
       })
 
   pub onward : (n : ℕ) (s : Reading) → Onward text due n s (readBy text due n s)
@@ -107,9 +115,11 @@ module _ (text : List ℕ) (due : List Line → Row) where
   onward zero s =
       record {
         was-good = λ g. g;
+        longer = omega arith;
         counted = λ g. sym (add-zero (length (s .lines)));
         further = λ g. omega arith;
         number = λ h. h;
+        earlier = λ i h. refl;
         inside = λ h. h;
         in-order = λ h. h;
       }

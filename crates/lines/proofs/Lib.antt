@@ -2,3 +2,4 @@ pub mod Storage
 pub mod Reading
 pub mod Shown
 pub mod Due
+pub mod Numbers
