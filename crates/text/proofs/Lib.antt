@@ -2,3 +2,5 @@ pub mod Walk
 pub mod Values
 pub mod Fits
 pub mod Codes
+pub mod Parts
+pub mod Rising
