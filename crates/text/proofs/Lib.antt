@@ -3,4 +3,4 @@ pub mod Values
 pub mod Fits
 pub mod Codes
 pub mod Parts
-pub mod Rising
+pub mod Pairs
