@@ -1,0 +1,4 @@
+pub mod Counted
+pub mod Places
+pub mod Reader
+pub mod Block
