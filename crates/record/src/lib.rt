@@ -8,7 +8,6 @@ ghost use Rattle.lines.specs.Cells.{lineIn, Shows};
 ghost use Rattle.record.specs.Rows.{headRows, unitRows, spansRow, endRow, rowAt, readLines};
 ghost use Rattle.record.specs.Hour.{noSpan, noUnit, noRecord, valueOr, spanBy, spansBy, unitBy, placeBy, recordBy, readRecord};
 ghost use Rattle.record.specs.Spans.{countedKind, minutesOf, minutesHold};
-
 use energy::GrossKwh;
 use energy::NetKwh;
 use lines::Cursor;

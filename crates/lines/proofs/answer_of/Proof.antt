@@ -16,7 +16,7 @@ add-t4 : tie.Need-add-t4
 add-t4 c = search needs
 
 returns : tie.Need-returns
-returns c = 
+returns c =
     λ s r a l. simp (eq-eqb _ _ (sym r ∙ c .before .if1 .taken)) (ap (λ (n : ℕ). Read (c .before .before .before .args .start + n)) a)
 
 add-text-refusal : tie.Need-add-text-refusal
@@ -26,7 +26,7 @@ text-refusal-requires : tie.Need-text-refusal-requires
 text-refusal-requires c κs = search needs
 
 returns-2 : tie.Need-returns-2
-returns-2 c = 
+returns-2 c =
     λ s r a l. simp (ne-eqb _ _ (λ e. c .before .if1 .left (r ∙ e)))
     (ap (λ (x : TextRefusal). Refused x) (c .text-refusal .ensures ∙ (ap (λ (n : ℕ). textRefusal n (c .before .before .before .args .c .lines + 1)) r ∙ ap (λ (n : ℕ). textRefusal (s .refusal) (n + 1)) l)))
 

@@ -41,7 +41,7 @@ add-first : tie.Need-add-first Inv-loop μ-loop
 add-first c = search needs
 
 loop-holds : tie.Need-loop-holds Inv-loop μ-loop
-loop-holds c = 
+loop-holds c =
     let g = c .before .args in
     (omega arith, paste-zero (g .cells .now) (25 * g .k + 1) (g .t4))
 
@@ -67,13 +67,13 @@ loop-less : tie.Need-loop-less Inv-loop μ-loop
 loop-less c = search needs
 
 loop-again : tie.Need-loop-again Inv-loop μ-loop
-loop-again c = 
+loop-again c =
     let l = c .before .loop in
     let g = c .before .before .before .args in (
       omega arith,
       ap (λ (x : List ℕ). set x (25 * g .k + 1 + l .i) (getD (g .t4) (l .i) 0)) (l .inv .1)
-      ∙ (paste-suc (g .cells .now) (25 * g .k + 1) (g .t4) (l .i) 0 (omega (arith, c .before .before .if1 .left)) (omega (arith, long (c .before .before .before)))
-      ∙ ap (paste (g .cells .now) (25 * g .k + 1) (g .t4)) (sym (add-one (l .i)))),
+          ∙ (paste-suc (g .cells .now) (25 * g .k + 1) (g .t4) (l .i) 0 (omega (arith, c .before .before .if1 .left)) (omega (arith, long (c .before .before .before)))
+          ∙ ap (paste (g .cells .now) (25 * g .k + 1) (g .t4)) (sym (add-one (l .i)))),
     )
 
 mul-cells-3 : tie.Need-mul-cells-3 Inv-loop μ-loop
@@ -87,12 +87,12 @@ same-length c = simp length-set (same-cells (c .before))
 
 returns-2 : tie.Need-returns-2 Inv-loop μ-loop
 unfolding withLine
-returns-2 c = 
+returns-2 c =
     let l = c .before .loop in
     let g = c .before .before .before .args in
     let all : l .i ≡ 24 = omega arith in (
       simp (le-ltb _ _ (c .before .before .if1 .left))
-      (ap (λ (x : List ℕ). set x (25 * g .k) (g .count)) (l .inv .1 ∙ ap (paste (g .cells .now) (25 * g .k + 1) (g .t4)) all)),
+          (ap (λ (x : List ℕ). set x (25 * g .k) (g .count)) (l .inv .1 ∙ ap (paste (g .cells .now) (25 * g .k + 1) (g .t4)) all)),
       long (c .before .before .before),
     )
 

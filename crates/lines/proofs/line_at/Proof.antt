@@ -25,7 +25,7 @@ refused-line-requires : tie.Need-refused-line-requires
 refused-line-requires c κs = search needs
 
 returns : tie.Need-returns
-returns c = 
+returns c =
     let g = c .before .before .before .before .args in
     let l = c .refused-line .ensures ∙ unended (g .text .now) (g .at) (g .row) (c .before .before .find .result) (c .before .before .find .ensures) (c .before .if1 .taken) in
     bad-line (g .text .now) (g .at) (g .row) (c .refused-line .result) l (λ z. omega (arith, ap (λ (x : Line). x .code) (c .refused-line .ensures)))
@@ -52,14 +52,14 @@ add-t16 : tie.Need-add-t16
 add-t16 c = search needs
 
 returns-2 : tie.Need-returns-2
-returns-2 c = 
+returns-2 c =
     let g = c .before .before .before .before .before .before .before .before .before .before .before .args in
     let e : c .before .before .before .before .before .before .before .before .before .find .result + 1 ≡ _ = ap (λ (x : ℕ). x + 1) (c .before .before .before .before .before .before .before .before .before .find .ensures) in
     ap {B = LineRead} (λ (x : ℕ). record { line = c .before .before .read-value .result; next = x }) e
     ∙ good-line (g .text .now) (g .at) (g .row) (c .before .before .read-value .result) (value-is (c .before .before)) (c .if3 .taken)
 
 returns-3 : tie.Need-returns-3
-returns-3 c = 
+returns-3 c =
     let g = c .before .before .before .before .before .before .before .before .before .before .before .args in
     bad-line (g .text .now) (g .at) (g .row) (c .before .before .read-value .result) (value-is (c .before .before)) (c .if3 .left)
 
@@ -67,7 +67,7 @@ refused-line-requires-2 : tie.Need-refused-line-requires-2
 refused-line-requires-2 c κs = search needs
 
 returns-4 : tie.Need-returns-4
-returns-4 c = 
+returns-4 c =
     let g = c .before .before .before .before .before .before .before .before .args in
     let l = c .refused-line2 .ensures ∙ other-key (g .text .now) (g .at) (g .row) (c .before .before .before .before .before .before .find .result) (c .before .before .before .before .before .before .find .ensures) (c .before .before .before .before .before .if1 .left) (sym (c .before .before .key-is .ensures) ∙ c .before .if2 .left) in
     bad-line (g .text .now) (g .at) (g .row) (c .refused-line2 .result) l (λ z. omega (arith, ap (λ (x : Line). x .code) (c .refused-line2 .ensures)))

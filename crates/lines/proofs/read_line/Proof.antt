@@ -11,7 +11,7 @@ use Rattle.lines.proofs.read_line.Statement.{statement}
 use Rattle.lines.proofs.read_line.Tie as tie
 
 returns : tie.Need-returns
-returns c = 
+returns c =
     let g = c .before .before .before .before .args in
     (λ s shown. shown-refused (g .text .now) (g .row) (g .cells .now) (g .c) s shown (c .if1 .taken), omega arith)
 
@@ -19,7 +19,7 @@ line-at-requires : tie.Need-line-at-requires
 line-at-requires c κs = search needs
 
 returns-2 : tie.Need-returns-2
-returns-2 c = 
+returns-2 c =
     let g = c .before .before .before .before .before .before .before .before .args in
     (λ s shown. shown-bad (g .text .now) (g .row) (g .cells .now) (g .c) s shown (c .before .before .before .line-at .result) (c .before .before .before .line-at .ensures) (c .before .before .before .before .if1 .left) (c .if2 .taken), omega arith)
 
@@ -33,7 +33,7 @@ same-length : tie.Need-same-length
 same-length c = search needs
 
 returns-3 : tie.Need-returns-3
-returns-3 c = 
+returns-3 c =
     let g = c .before .before .before .before .before .before .before .before .before .before .before .before .before .args in
     let k = c .before .before .keep in
     (λ s shown. rw (k .ensures .0) (shown-good (g .text .now) (g .row) (g .cells .now) (g .c) s shown (c .before .before .before .before .before .before .before .before .line-at .result) (c .before .before .before .before .before .before .before .before .line-at .ensures) (c .before .before .before .before .before .before .before .before .before .if1 .left) (c .before .before .before .before .before .if2 .left) (k .ensures .1)), omega arith)

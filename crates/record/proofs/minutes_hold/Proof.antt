@@ -36,7 +36,7 @@ unit-minutes-requires c κs = search needs
 
 returns : tie.Need-returns Inv-loop μ-loop
 unfolding minutesHold
-returns c = 
+returns c =
     let l = c .before .before .before .before .before .before .loop in
     let g = c .before .before .before .before .before .before .before .args in
     sym (every-fails 8 (l .k) (placeMinutes (g .t1) (g .units)) (omega arith)
@@ -49,14 +49,19 @@ loop-less : tie.Need-loop-less Inv-loop μ-loop
 loop-less c = search needs
 
 loop-again : tie.Need-loop-again Inv-loop μ-loop
-loop-again c = 
+loop-again c =
     let l = c .before .before .before .loop in
-    let g = c .before .before .before .before .args in
-    (omega arith, every-next (l .k) (placeMinutes (g .t1) (g .units)) (l .inv .1) (⊎-elim (λ w. ?) (λ w. ?) (c .if1 .came)))
+    let g = c .before .before .before .before .args in (
+      omega arith,
+      every-next (l .k) (placeMinutes (g .t1) (g .units)) (l .inv .1) (⊎-elim
+          (λ w. simp (sym (c .before .member-at .ensures) ∙ w .0 .taken) (sym (w .2 .ensures) ∙ not-false _ (w .3 .left)))
+          (λ w. simp (sym (c .before .member-at .ensures) ∙ w .left))
+          (c .if1 .came)),
+    )
 
 returns-2 : tie.Need-returns-2 Inv-loop μ-loop
 unfolding minutesHold
-returns-2 c = 
+returns-2 c =
     let l = c .before .loop in
     let all : l .k ≡ 8 = omega arith in
     sym (l .inv .1) ∙ ap (λ (n : ℕ). every n (placeMinutes (c .before .before .args .t1) (c .before .before .args .units))) all

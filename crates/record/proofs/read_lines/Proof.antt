@@ -9,13 +9,13 @@ use Rattle.lines.specs.Lines.{begin, readLine, readBy}
 use Rattle.lines.specs.Cells.{Shows}
 use Rattle.lines.proofs.Due.{by-next}
 use Rattle.record.specs.Rows.{rowAt, dueRow, readLines}
-use Rattle.record.proofs.Reader.{nothing-read}
+use Rattle.record.proofs.Facts.{nothing-read}
 use borrow.Author.Needs.{needs}
 use Rattle.record.proofs.read_lines.Statement.{statement}
 use Rattle.record.proofs.read_lines.Tie as tie
 
 abbrev Inv-loop : tie.InvT-loop
-Inv-loop text n cells₀ due c₀ i₀ cells c i = 
+Inv-loop text n cells₀ due c₀ i₀ cells c i =
     (i ≤ due)
     × (c .lines ≤ i)
     × (length cells ≡ length cells₀)
@@ -53,7 +53,7 @@ loop-less : tie.Need-loop-less Inv-loop μ-loop
 loop-less c = search needs
 
 loop-again : tie.Need-loop-again Inv-loop μ-loop
-loop-again c = 
+loop-again c =
     let l = c .before .before .before .before .before .before .loop in
     let g = c .before .before .before .before .before .before .before .before .before .before .args in
     let r = c .before .before .read-line in
@@ -70,7 +70,7 @@ same-length c = search needs
 
 returns : tie.Need-returns Inv-loop μ-loop
 unfolding readLines
-returns c = 
+returns c =
     let l = c .before .loop in
     let g = c .before .before .before .before .before .args in
     let all : l .i ≡ 3 + 9 * g .n + 1 = omega (arith, l .inv .0, c .loop-test .left) in

@@ -40,7 +40,7 @@ loop-less : tie.Need-loop-less Inv-loop μ-loop
 loop-less c = search needs
 
 loop-again : tie.Need-loop-again Inv-loop μ-loop
-loop-again c = 
+loop-again c =
     let l = c .before .before .loop in
     let g = c .before .before .before .before .before .args in (
       omega arith,
@@ -59,7 +59,7 @@ value-or-requires-2 c κs = search needs
 
 returns : tie.Need-returns Inv-loop μ-loop
 unfolding recordBy
-returns c = 
+returns c =
     let l = c .before .before .before .before .loop in
     let g = c .before .before .before .before .before .before .before .args in
     let f = placeBy (lineIn (g .cells .now)) (g .units) (g .monthly) in

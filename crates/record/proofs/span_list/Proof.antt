@@ -40,7 +40,7 @@ loop-less : tie.Need-loop-less Inv-loop μ-loop
 loop-less c = search needs
 
 loop-again : tie.Need-loop-again Inv-loop μ-loop
-loop-again c = 
+loop-again c =
     let l = c .before .before .loop in
     let g = c .before .before .before .before .before .args in (
       omega arith,
@@ -49,7 +49,7 @@ loop-again c =
     )
 
 returns : tie.Need-returns Inv-loop μ-loop
-returns c = 
+returns c =
     let l = c .before .loop in
     let f = spanBy (lineIn (c .before .before .before .before .args .cells .now) (c .before .before .before .before .args .k)) (c .before .before .before .before .args .declared) in
     let all : l .i ≡ 6 = omega arith in

@@ -79,7 +79,7 @@ span-list-requires : tie.Need-span-list-requires
 span-list-requires c κs = search needs
 
 returns : tie.Need-returns
-returns c = 
+returns c =
     let g = c .before .before .before .before .before .before .before .before .before .before .before .before .args in
     unit-made (lineIn (g .cells .now)) (g .j) (g .monthly) _ _ _ _ _ _ _ _ _ _ _
     (c .before .before .before .before .before .before .before .before .before .before .value-or .ensures ∙ ap (λ (k : ℕ). valueOr (g .monthly .0) (lineIn (g .cells .now) k)) (sym (add-zero (blockLine (g .j)))))

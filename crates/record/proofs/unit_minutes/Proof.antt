@@ -33,7 +33,7 @@ sub-if2 c = search needs
 
 returns : tie.Need-returns Inv-loop μ-loop
 unfolding minutesOf
-returns c = 
+returns c =
     let l = c .before .before .before .before .loop in
     let u = c .before .before .before .before .before .before .args .t1 in
     let more : sum (l .i) (λ i. spanAt u i .minutes) + spanAt u (l .i) .minutes ≤ minutesOf u = sum-has (spanCount u) (l .i) (λ i. spanAt u i .minutes) (omega arith) in
@@ -49,14 +49,14 @@ loop-less : tie.Need-loop-less Inv-loop μ-loop
 loop-less c = search needs
 
 loop-again : tie.Need-loop-again Inv-loop μ-loop
-loop-again c = 
+loop-again c =
     let l = c .before .before .before .before .before .loop in
     let u = c .before .before .before .before .before .before .before .args .t1 in
     let next = sum-next (l .i) (λ i. spanAt u i .minutes) in (omega arith, l .inv .1, omega arith, omega arith)
 
 returns-2 : tie.Need-returns-2 Inv-loop μ-loop
 unfolding minutesOf
-returns-2 c = 
+returns-2 c =
     let l = c .before .loop in
     let u = c .before .before .before .args .t1 in
     let all : l .i ≡ spanCount u = omega arith in
