@@ -1,17 +1,19 @@
 -- What the crates above use of the reader: a record that was read keeps its ranges, its place is past the start and within the text,
--- and a refused reading gives the empty record and a number from 1 to 4.
+-- and a refused reading gives the empty record and a number from 1 to 4; a record that passes refusal 31 has units of 60 minutes.
 -- Assumes nothing.
-use mathlib.Core.Path.{_≡_, refl, ap, sym, _∙_, subst}
+use mathlib.Core.Path.{_≡_, refl, ap, sym, _∙_}
 use mathlib.Core.Bool.{Bool, true, false, cond, _||_}
 use mathlib.Core.List.{List}
-use Prim.Native.Nat.{ℕ, _+_, _*_, _^_, _≤_, _<_}
+use Prim.Native.Nat.{ℕ, _+_, _^_, _≤_, _<_}
 use native.Mathlib.Omega.{arith}
-use borrow.Author.Tests.{eqb-true, eqb-false, ltb-false, eq-eqb, ne-eqb}
+use borrow.Author.Tests.{eqb-true, ltb-false, eq-eqb}
 use lib.Dec.{eqb, ltb}
 use lib.Count.{ones}
 use lib.ListN.{length, drop, getD, length-drop}
 use Rattle.energy.specs.declared.GrossKwh.{GrossKwh}
+use Rattle.finite.proofs.Tests.{every-at}
 use Rattle.units.specs.Units.{memberAt}
+use Rattle.units.proofs.Laws.{place-lt}
 use Rattle.lines.specs.declared.Cursor.{Cursor}
 use Rattle.lines.specs.declared.TextRefusal.{TextRefusal}
 use Rattle.lines.specs.declared.TextRefusal.the-variants.{NotDue, BadValue, OfferOrder, TextEnds}
@@ -19,14 +21,17 @@ use Rattle.lines.specs.declared.ReadAnswer.the-variants.{Read, Refused}
 use Rattle.lines.specs.Lines.{Reading, lineOf}
 use Rattle.lines.specs.Cells.{lineIn, Shows}
 use Rattle.lines.specs.Refusals.{textNumber, textRefusal, badStart, answerOf}
+use Rattle.record.specs.declared.UnitRecord.{UnitRecord}
+use Rattle.record.specs.declared.Record.{Record}
 use Rattle.record.specs.declared.RecordRead.{RecordRead}
-use Rattle.record.specs.Limits.{mostKwh}
+use Rattle.record.specs.Limits.{mostKwh, hourMinutes}
 use Rattle.record.specs.Rows.{readLines}
 use Rattle.record.specs.Hour.{recordBy, recordOf, noRecord, readRecord}
+use Rattle.record.specs.Spans.{unitAt, spanCount, minutesOf, placeMinutes, minutesHold}
 use Rattle.record.proofs.Facts.{whole, place-in, place-past}
 use Rattle.record.proofs.Same.{record-same}
 use Rattle.record.proofs.Good.{record-read}
-use Rattle.record.proofs.InRange.{InRange}
+use Rattle.record.proofs.InRange.{UnitInRange, InRange}
 
 -- the cells that show a good reading make its record
 pub shown-record : (text cells : List ℕ) (units : ℕ) (monthly : List GrossKwh) (c : Cursor) → units < 2 ^ 64 → Shows cells c (readLines text (ones units))
@@ -114,3 +119,14 @@ refused-number (NotDue line) = (omega arith, omega arith)
 refused-number (BadValue line) = (omega arith, omega arith)
 refused-number (OfferOrder line) = (omega arith, omega arith)
 refused-number (TextEnds line) = (omega arith, omega arith)
+
+-- the spans of a unit that was read are all there
+pub spans-all : (u : UnitRecord) → UnitInRange u → spanCount u ≡ u .spans
+spans-all u r = omega (arith, r .spans-most)
+
+-- a record that passes refusal 31
+pub minutes-told : (r : Record) (units k : ℕ) → minutesHold r units ≡ true → memberAt units k ≡ true → minutesOf (unitAt r k) ≡ hourMinutes
+unfolding minutesHold
+minutes-told r units k h m =
+    let t : placeMinutes r units k ≡ true = every-at 8 (placeMinutes r units) h k (place-lt units k m) in
+    eqb-true (minutesOf (unitAt r k)) hourMinutes (rw m at t)

@@ -1,7 +1,7 @@
 -- The hour record that the lines make, and its reader (01, Hour record).
 use Prim.Native.Nat.{ℕ, _+_, _*_, _/_}
 use mathlib.Core.Bool.{Bool, false, cond}
-use mathlib.Core.List.{List, []}
+use mathlib.Core.List.{List}
 use lib.Dec.{eqb, ltb}
 use lib.ListN.{drop, getD, replicate}
 use Rattle.finite.specs.Finite.{tabulate}
@@ -22,8 +22,8 @@ use Rattle.record.specs.Rows.{headLines, unitLines, hourLine, netLine, r
 abbrev pub noSpan : Span
 noSpan = record { minutes = 0; kind = 0; cause = 0; capability = record { 0 = 0 } }
 
-abbrev pub noUnit : UnitRecord
-noUnit =
+abbrev pub emptyUnit : List Span → UnitRecord
+emptyUnit span =
     record {
       declared = record { 0 = 0 };
       real = record { 0 = 0 };
@@ -35,8 +35,11 @@ noUnit =
       since = 0;
       repair = 0;
       spans = 0;
-      span = replicate mostSpans noSpan;
+      span = span;
     }
+
+abbrev pub noUnit : UnitRecord
+noUnit = emptyUnit (replicate mostSpans noSpan)
 
 abbrev pub noRecord : Record
 noRecord = record { hour = 0; net = record { 0 = 0 }; reverse = record { 0 = 0 }; unit = replicate 8 noUnit }

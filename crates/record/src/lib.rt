@@ -1,7 +1,7 @@
 // The hour record: its type, its reader, how a span's kind counts, and the test of the spans' minutes.
 ghost use mathlib.Core.Path.{_≡_};
-ghost use Prim.Native.Nat.{ℕ, _+_, _*_, _^_, _≤_, _<_};
-ghost use lib.ListN.{length, getD};
+ghost use Prim.Native.Nat.{_+_, _*_, _^_, _≤_, _<_};
+ghost use lib.ListN.{getD};
 ghost use lib.Dec.{eqb};
 ghost use Rattle.finite.specs.Finite.{tabulate};
 ghost use Rattle.lines.specs.Cells.{lineIn, Shows};
@@ -220,7 +220,7 @@ fn span_list(cells: &[u64], k: usize, declared: GrossKwh) -> [Span; 6]
     span
 }
 
-fn no_unit() -> UnitRecord
+pub fn no_unit() -> UnitRecord
     ensures { λ r. ⌜ r ≡ noUnit ⌝ }
 {
     UnitRecord {
