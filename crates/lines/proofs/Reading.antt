@@ -2,16 +2,16 @@
 -- reading stays as it is, and each line taken in keeps to the row that was due.
 -- Assumes nothing.
 use mathlib.Core.Path.{_≡_, refl, ap, sym, _∙_, subst}
-use mathlib.Core.Bool.{Bool, true, false, cond}
+use mathlib.Core.Bool.{Bool, true, false, cond, _||_}
 use mathlib.Core.List.{List, [], _∷_, _++_}
 use Prim.Native.Nat.{ℕ, zero, suc, _+_, _-_, _≤_, _<_}
 use native.Mathlib.Omega.{arith}
-use borrow.Author.Tests.{le-ltb, lt-ltb, ltb-true, eq-eqb, ne-eqb, eqb-true, eqb-false}
-use lib.Dec.{eqb}
+use borrow.Author.Tests.{le-ltb, lt-ltb, ltb-true, ltb-false, eq-eqb, ne-eqb, eqb-true, eqb-false}
+use lib.Dec.{eqb, ltb}
 use lib.ListN.{length, drop, take, length-drop}
 use Rattle.text.proofs.Codes.{code-of, value-code}
 use Rattle.text.proofs.Fits.{Fits, value-fits}
-use Rattle.lines.specs.Refusals.{textNumber, textRefusal}
+use Rattle.lines.specs.Refusals.{textNumber, textRefusal, badStart}
 use Rattle.lines.specs.declared.TextRefusal.the-variants.{NotDue, BadValue, OfferOrder, TextEnds}
 use Rattle.text.specs.Text.{seek, before, has, valuePart, keyIs}
 use Rattle.text.specs.Rows.{noLine, valueOf}
@@ -75,6 +75,14 @@ module _ (text : List ℕ) (row : Row) (s : Reading) where
         → readLine text row s ≡ record { refusal = 0; at = placeAfter text (s .at); lines = s .lines ++ (lineAt text (s .at) row ∷ []) }
     unfolding readLine
     line-taken e = simp (eq-eqb _ _ good, eq-eqb _ _ e)
+
+-- a text and a start that are not refused
+pub start-within : (text : List ℕ) (start : ℕ) → badStart text start ≡ false → (length text ≤ 65536) × (start ≤ length text)
+start-within text start = by (ltb 65536 (length text)) refl (ltb (length text) start) refl
+  where
+    by : (a : Bool) → ltb 65536 (length text) ≡ a → (b : Bool) → ltb (length text) start ≡ b → (a || b) ≡ false → (length text ≤ 65536) × (start ≤ length text)
+    by true e b f h = absurd (let z : _≡_ {A = ℕ} 0 1 = cc in omega arith)
+    by false e b f h = (ltb-false _ _ e, ltb-false _ _ (f ∙ h))
 
 -- a refusal's number is that of its case
 pub refusal-number : (number line : ℕ) → 1 ≤ number → number ≤ 4 → textNumber (textRefusal number line) ≡ number

@@ -1,0 +1,114 @@
+-- A round of the fill's code: the unit whose next block is cheapest is the one that gets the next grain, since a block's price is its first
+-- grain's; the block's grains then go to it together, and only its own next block changes.
+-- Assumes nothing.
+use mathlib.Core.Path.{_≡_, sym, subst, _∙_, ap}
+use mathlib.Core.Bool.{Bool, true, false}
+use mathlib.Core.List.{List}
+use Prim.Native.Nat.{ℕ, _+_, _-_, _<_, _≤_}
+use native.Mathlib.Numerals.{add-one}
+use native.Mathlib.Decide.{ℕ-discrete}
+use native.Mathlib.Omega.{arith}
+use borrow.Author.Tests.{lt-ltb, le-ltb, ltb-true}
+use lib.Dec.{ltb}
+use lib.ListN.{length, getD, set}
+use lib.Seq.{getD-set-same, getD-set-other}
+use Rattle.energy.specs.declared.HubKwh.{HubKwh}
+use Rattle.energy.specs.declared.HubGrains.{HubGrains}
+use Rattle.offer.specs.declared.Offer.{Offer}
+use Rattle.offer.specs.declared.Block.{Block}
+use Rattle.offer.specs.Offer.{pastOffer}
+use Rattle.offer.specs.Modified.{IsBlock}
+use Rattle.allocation.specs.declared.Pick.{Pick}
+use Rattle.allocation.specs.declared.Pick.the-variants.{Nothing as none, At as at}
+use Rattle.allocation.specs.Fill.{grainsAt, withMore, better, best, nextUnit, place}
+use Rattle.allocation.specs.Allocation.{pricesOf}
+use Rattle.allocation.specs.Blocks.{blockPrice, blockEnd, HasBlock}
+use Rattle.allocation.proofs.Best.{Picked, best-is, best-same}
+use Rattle.allocation.proofs.Threshold.{more-same, more-other}
+use Rattle.allocation.proofs.Runs.{place-add, picked, run}
+
+-- the better of two units, by the code's tests
+module _ (next : ℕ → ℕ) (found : Pick) (v : ℕ) where
+  pub better-first : found ≡ none → at v ≡ better next found v
+  unfolding better
+  better-first e = rw e
+
+  pub better-new : (u : ℕ) → found ≡ at u → next v < next u → at v ≡ better next found v
+  unfolding better
+  better-new u e l = rw e (rw (lt-ltb (next v) (next u) l))
+
+  pub better-kept : (u : ℕ) → found ≡ at u → next u ≤ next v → at u ≡ better next found v
+  unfolding better
+  better-kept u e l = rw e (rw (le-ltb (next v) (next u) l))
+
+-- one unit more
+module _ (next : ℕ → ℕ) (room : ℕ → Bool) (n : ℕ) where
+  pub best-free : room n ≡ true → better next (best next room n) n ≡ best next room (n + 1)
+  unfolding best
+  best-free e = rw add-one (rw e)
+
+  pub best-full : room n ≡ false → best next room n ≡ best next room (n + 1)
+  unfolding best
+  best-full e = rw add-one (rw e)
+
+  pub best-below : (u : ℕ) → best next room n ≡ at u → u < n
+  best-below u e = subst (λ (q : Pick). Picked next room n q) e (best-is next room n) .known
+
+module _ (offers : List Offer) (commitments : List HubKwh) (ceilings : List HubGrains) where
+  -- the blocks after one was replaced
+  module _ (blocks : List Block) (u : ℕ) (b : Block) where
+    abbrev BlockAt : ℕ → ℕ → Block → Type 0
+    BlockAt v i b =
+        i < grainsAt ceilings v
+        → IsBlock (getD offers v pastOffer) (getD commitments v (record { 0 = 0 })) i (grainsAt ceilings v) (b .price) (b .end)
+
+    pub block-same : (i : ℕ) → u < length blocks → BlockAt u i b → HasBlock offers commitments ceilings (set blocks u b) u i
+    block-same i l h = subst (BlockAt u i) (sym (getD-set-same blocks u b (record { price = 0; end = 0 }) l)) h
+
+    pub block-other : (v i : ℕ) → (v ≡ u → ⊥) → HasBlock offers commitments ceilings blocks v i → HasBlock offers commitments ceilings (set blocks u b) v i
+    block-other v i d h = subst (BlockAt v i) (sym (getD-set-other blocks u v b (record { price = 0; end = 0 }) d)) h
+
+  module _ (a : List HubGrains) (blocks : List Block) (has : (u : ℕ) → u < 8 → HasBlock offers commitments ceilings blocks u (grainsAt a u)) where
+    -- the cheapest next block is that of the unit that gets the next grain
+    pub same-pick : best (blockPrice blocks) (λ u. ltb (grainsAt a u) (grainsAt ceilings u)) 8 ≡ nextUnit (pricesOf offers commitments) (grainsAt ceilings) 8 a
+    same-pick =
+        best-same (blockPrice blocks) (λ u. pricesOf offers commitments u (grainsAt a u)) (λ u. ltb (grainsAt a u) (grainsAt ceilings u)) 8
+        (λ u l r. let b = has u l (ltb-true (grainsAt a u) (grainsAt ceilings u) r) in sym (b .flat (grainsAt a u) (omega arith) (b .past)))
+
+    module _ (u : ℕ) (long : length a ≡ 8) (e : nextUnit (pricesOf offers commitments) (grainsAt ceilings) 8 a ≡ at u) where
+      pub known : (u < 8) × (grainsAt a u < grainsAt ceilings u)
+      known = let b = picked (pricesOf offers commitments) (grainsAt ceilings) 8 a u e in (b .known, ltb-true _ _ (b .free))
+
+      pub block : IsBlock (getD offers u pastOffer) (getD commitments u (record { 0 = 0 })) (grainsAt a u) (grainsAt ceilings u) (blockPrice blocks u) (blockEnd blocks u)
+      block = has u (known .0) (known .1)
+
+      -- a block, or less
+      pub placed : (m : ℕ) → m ≤ blockEnd blocks u - grainsAt a u → place (pricesOf offers commitments) (grainsAt ceilings) 8 m a ≡ withMore a u m
+      placed m l =
+          run (pricesOf offers commitments) (grainsAt ceilings) 8 a u long e m (omega (arith, block .within, block .past))
+          (λ i q.
+          block .flat (grainsAt a u + i) (omega arith) (omega (arith, block .past)) ∙ sym (block .flat (grainsAt a u) (omega arith) (block .past)))
+
+      pub has-after : (m : ℕ) (b : Block) → length blocks ≡ 8
+          → (grainsAt a u + m < grainsAt ceilings u
+          → IsBlock (getD offers u pastOffer) (getD commitments u (record { 0 = 0 })) (grainsAt a u + m) (grainsAt ceilings u) (b .price) (b .end))
+          → (v : ℕ) → v < 8 → HasBlock offers commitments ceilings (set blocks u b) v (grainsAt (withMore a u m) v)
+      has-after m b len h v l = go (ℕ-discrete v u)
+        where
+          go : Dec (v ≡ u) → HasBlock offers commitments ceilings (set blocks u b) v (grainsAt (withMore a u m) v)
+          go (yes e) =
+              subst (λ (v : ℕ). HasBlock offers commitments ceilings (set blocks u b) v (grainsAt (withMore a u m) v)) (sym e)
+              (subst (λ (i : ℕ). HasBlock offers commitments ceilings (set blocks u b) u i) (sym (more-same a u m (omega (arith, long, known))))
+              (block-same blocks u b (grainsAt a u + m) (omega (arith, len, known)) h))
+          go (no d) =
+              subst (λ (i : ℕ). HasBlock offers commitments ceilings (set blocks u b) v i) (sym (more-other a u m v d))
+              (block-other blocks u b v (grainsAt a v) d (has v l))
+
+-- the grains placed so far and some more
+pub further : (price : ℕ → ℕ → ℕ) (ceiling : ℕ → ℕ) (h left m : ℕ) (z a b : List HubGrains) → left ≤ h → m ≤ left
+    → a ≡ place price ceiling 8 (h - left) z → place price ceiling 8 m a ≡ b → b ≡ place price ceiling 8 (h - (left - m)) z
+further price ceiling h left m z a b l l' e e' =
+    let s : h - left + m ≡ h - (left - m) = omega arith in
+    sym e'
+    ∙ (ap (λ (b : List HubGrains). place price ceiling 8 m b) e
+    ∙ (sym (place-add price ceiling 8 (h - left) m z) ∙ ap (λ (n : ℕ). place price ceiling 8 n z) s))

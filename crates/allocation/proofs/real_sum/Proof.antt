@@ -1,0 +1,75 @@
+-- The loop's invariant: what is summed is the sum over the places passed, at most 10^6 for each.
+-- Assumes nothing.
+use mathlib.Core.Path.{_≡_, refl, _∙_, ap}
+use Prim.Native.Nat.{ℕ, _*_, _-_, _≤_}
+use native.Mathlib.Omega.{arith}
+use Rattle.finite.specs.Finite.{sum as sumBelow}
+use Rattle.finite.proofs.Sums.{sum-next}
+use Rattle.energy.specs.declared.NetKwh.{NetKwh}
+use Rattle.allocation.specs.Allocation.{netAt}
+use borrow.Author.Needs.{needs}
+use Rattle.allocation.proofs.real_sum.Statement.{statement}
+use Rattle.allocation.proofs.real_sum.Tie as tie
+
+abbrev Inv-loop : tie.InvT-loop
+Inv-loop units real sum₀ k₀ sum k =
+    (k ≤ 8) × (sum ≤ 1000000 * k) × (sum ≡ sumBelow k (λ i. netAt units real i .0))
+
+abbrev μ-loop : tie.MeasureT-loop
+μ-loop units real sum₀ k₀ sum k = 8 - k
+
+loop-holds : tie.Need-loop-holds Inv-loop μ-loop
+unfolding sumBelow
+loop-holds c = (omega arith, omega arith, refl)
+
+mul-value : tie.Need-mul-value Inv-loop μ-loop
+mul-value c = search needs
+
+array-copy-out-value : tie.Need-array-copy-out-value Inv-loop μ-loop
+array-copy-out-value c = search needs
+
+net-at-requires : tie.Need-net-at-requires Inv-loop μ-loop
+net-at-requires c κs = search needs
+
+add-sum : tie.Need-add-sum Inv-loop μ-loop
+add-sum c =
+    let start = c .before .before .before .before .before in
+    let l = c .before .before .before .before .loop in
+    omega (arith, ap (λ (n : NetKwh). n .0) (c .before .net-at .ensures), start .pre (l .k), l .inv)
+
+add-k : tie.Need-add-k Inv-loop μ-loop
+add-k c = search needs
+
+loop-less : tie.Need-loop-less Inv-loop μ-loop
+loop-less c = search needs
+
+loop-again : tie.Need-loop-again Inv-loop μ-loop
+loop-again c =
+    let start = c .before .before .before .before .before in
+    let l = c .before .before .before .before .loop in
+    let e = ap (λ (n : NetKwh). n .0) (c .before .net-at .ensures) in
+    let m = start .pre (l .k) in
+    (omega arith, omega (arith, e, m, l .inv), omega (arith, e, l .inv .2, sum-next (l .k) (λ i. netAt (start .args .units) (start .args .t2) i .0)))
+
+returns : tie.Need-returns Inv-loop μ-loop
+returns c =
+    let a = c .before .before .args in
+    let l = c .before .loop in
+    let kwh : ℕ → NetKwh = λ x. record { 0 = x } in
+    ap kwh (l .inv .2 ∙ ap (λ (n : ℕ). sumBelow n (λ i. netAt (a .units) (a .t2) i .0)) (omega arith))
+
+pub real-sum-spec : {M : Type 1} → statement M
+real-sum-spec =
+    tie.close
+    (tie.spec
+    Inv-loop
+    μ-loop
+    loop-holds
+    mul-value
+    array-copy-out-value
+    net-at-requires
+    add-sum
+    add-k
+    loop-less
+    loop-again
+    returns)

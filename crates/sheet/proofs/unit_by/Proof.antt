@@ -1,0 +1,116 @@
+-- The offers are filled from the front, an hour a turn.
+use Prim.Native.Nat.{ℕ, _+_, _*_, _-_, _≤_}
+use mathlib.Core.Path.{_≡_, refl, ap, sym, _∙_}
+use native.Mathlib.Omega.{arith}
+use lib.ListN.{length, take, getD, length-set}
+use Rattle.finite.specs.Finite.{tabulate}
+use Rattle.finite.proofs.Tables.{filled-next, filled}
+use Rattle.lines.specs.Cells.{lineIn}
+use mathlib.Core.List.{List}
+use Rattle.energy.specs.declared.GrossKwh.{GrossKwh}
+use Rattle.offer.specs.declared.Offer.{Offer}
+use Rattle.lines.specs.Lines.{numberOf}
+use Rattle.sheet.specs.Day.{offerBy, unitBy, blockLine}
+use borrow.Author.Needs.{needs}
+use Rattle.sheet.proofs.unit_by.Statement.{statement}
+use Rattle.sheet.proofs.unit_by.Tie as tie
+
+abbrev Inv-loop : tie.InvT-loop
+Inv-loop cells j at offers₀ h₀ offers h = (h ≤ 24) × (length offers ≡ 24) × (take h offers ≡ tabulate h (λ h. offerBy (lineIn cells (at + 3 + h))))
+
+abbrev μ-loop : tie.MeasureT-loop
+μ-loop cells j at offers₀ h₀ offers h = 24 - h
+
+mul-at : tie.Need-mul-at Inv-loop μ-loop
+mul-at c = search needs
+
+add-at : tie.Need-add-at Inv-loop μ-loop
+add-at c = search needs
+
+no-offer-requires : tie.Need-no-offer-requires Inv-loop μ-loop
+no-offer-requires c κs = search needs
+
+loop-holds : tie.Need-loop-holds Inv-loop μ-loop
+unfolding tabulate
+loop-holds c = (omega arith, refl, refl)
+
+add-offer-by : tie.Need-add-offer-by Inv-loop μ-loop
+add-offer-by c = search needs
+
+add-offer-by-2 : tie.Need-add-offer-by-2 Inv-loop μ-loop
+add-offer-by-2 c = search needs
+
+offer-by-requires : tie.Need-offer-by-requires Inv-loop μ-loop
+offer-by-requires c κs = search needs
+
+mul-offers : tie.Need-mul-offers Inv-loop μ-loop
+mul-offers c = search needs
+
+array-set-from-offers : tie.Need-array-set-from-offers Inv-loop μ-loop
+array-set-from-offers c = search needs
+
+add-h : tie.Need-add-h Inv-loop μ-loop
+add-h c = search needs
+
+loop-less : tie.Need-loop-less Inv-loop μ-loop
+loop-less c = search needs
+
+loop-again : tie.Need-loop-again Inv-loop μ-loop
+loop-again c =
+    let l = c .before .before .loop in
+    let g = c .before .before .before .before .before .args in (
+      omega arith,
+      simp length-set (l .inv .1),
+      filled-next (λ h. offerBy (lineIn (g .cells .now) (blockLine (g .j) + 3 + h))) (l .offers) (l .h) _ (omega arith) (l .inv .2) (c .offer-by .ensures),
+    )
+
+first-at-requires : tie.Need-first-at-requires Inv-loop μ-loop
+first-at-requires c κs = search needs
+
+add-first-at : tie.Need-add-first-at Inv-loop μ-loop
+add-first-at c = search needs
+
+first-at-requires-2 : tie.Need-first-at-requires-2 Inv-loop μ-loop
+first-at-requires-2 c κs = search needs
+
+add-first-at-2 : tie.Need-add-first-at-2 Inv-loop μ-loop
+add-first-at-2 c = search needs
+
+first-at-requires-3 : tie.Need-first-at-requires-3 Inv-loop μ-loop
+first-at-requires-3 c κs = search needs
+
+returns : tie.Need-returns Inv-loop μ-loop
+unfolding unitBy
+returns c =
+    let l = c .before .before .before .before .loop in
+    let g = c .before .before .before .before .before .before .before .args in
+    let f : ℕ → Offer = λ h. offerBy (lineIn (g .cells .now) (blockLine (g .j) + 3 + h)) in
+    let all : l .h ≡ 24 = omega arith in
+    let offers : l .offers ≡ tabulate 24 f =
+    filled f (l .offers) 24 (omega arith) (ap (λ (n : ℕ). take n (l .offers)) (sym all) ∙ (l .inv .2 ∙ ap (λ (n : ℕ). tabulate n f) all)) in
+    cc (offers, c .before .before .first-at .ensures, c .before .first-at2 .ensures, c .first-at3 .ensures)
+
+pub unit-by-spec : {M : Type 1} → statement M
+unit-by-spec =
+    tie.close
+    (tie.spec
+    Inv-loop
+    μ-loop
+    mul-at
+    add-at
+    no-offer-requires
+    loop-holds
+    add-offer-by
+    add-offer-by-2
+    offer-by-requires
+    mul-offers
+    array-set-from-offers
+    add-h
+    loop-less
+    loop-again
+    first-at-requires
+    add-first-at
+    first-at-requires-2
+    add-first-at-2
+    first-at-requires-3
+    returns)
