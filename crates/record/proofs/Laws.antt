@@ -2,12 +2,12 @@
 -- and a refused reading gives the empty record and a number from 1 to 4; a record that passes refusal 31 has units of 60 minutes.
 -- Assumes nothing.
 use mathlib.Core.Path.{_≡_, refl, ap, sym, _∙_}
-use mathlib.Core.Bool.{Bool, true, false, cond, _||_}
+use mathlib.Core.Bool.{Bool, true, false, cond}
 use mathlib.Core.List.{List}
 use Prim.Native.Nat.{ℕ, _+_, _^_, _≤_, _<_}
 use native.Mathlib.Omega.{arith}
-use borrow.Author.Tests.{eqb-true, ltb-false, eq-eqb}
-use lib.Dec.{eqb, ltb}
+use borrow.Author.Tests.{eqb-true, eq-eqb}
+use lib.Dec.{eqb}
 use lib.Count.{ones}
 use lib.ListN.{length, drop, getD, length-drop}
 use Rattle.energy.specs.declared.GrossKwh.{GrossKwh}
@@ -19,6 +19,7 @@ use Rattle.lines.specs.declared.TextRefusal.{TextRefusal}
 use Rattle.lines.specs.declared.TextRefusal.the-variants.{NotDue, BadValue, OfferOrder, TextEnds}
 use Rattle.lines.specs.declared.ReadAnswer.the-variants.{Read, Refused}
 use Rattle.lines.specs.Lines.{Reading, lineOf}
+use Rattle.lines.proofs.Reading.{start-within}
 use Rattle.lines.specs.Cells.{lineIn, Shows}
 use Rattle.lines.specs.Refusals.{textNumber, textRefusal, badStart, answerOf}
 use Rattle.record.specs.declared.UnitRecord.{UnitRecord}
@@ -40,13 +41,6 @@ shown-record text cells units monthly c fits shown good room =
     let all = whole text (ones units) (sym (shown .refusal-is) ∙ good) in
     sym (record-same (lineOf (readLines text (ones units) .lines)) (lineIn cells) units monthly fits
     (λ k b h. shown .kept k (omega (arith, all .count)) (omega arith)))
-
-pub start-within : (text : List ℕ) (start : ℕ) → badStart text start ≡ false → (length text ≤ 65536) × (start ≤ length text)
-start-within text start = by (ltb 65536 (length text)) (ltb (length text) start) refl refl
-  where
-    by : (a b : Bool) → ltb 65536 (length text) ≡ a → ltb (length text) start ≡ b → (a || b) ≡ false → (length text ≤ 65536) × (start ≤ length text)
-    by true b d e h = absurd (let z : _≡_ {A = ℕ} 0 1 = cc in omega arith)
-    by false b d e h = (ltb-false _ _ d, ltb-false _ _ (e ∙ h))
 
 module _ (text : List ℕ) (start units : ℕ) (monthly : List GrossKwh) where
   pub start-bad : badStart text start ≡ true → readRecord text start units monthly ≡ record { answer = Refused (textRefusal 4 0); read = noRecord }

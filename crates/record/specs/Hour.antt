@@ -18,10 +18,11 @@ use Rattle.record.specs.declared.RecordRead.{RecordRead}
 use Rattle.record.specs.Limits.{mostSpans, hourMinutes}
 use Rattle.record.specs.Rows.{headLines, unitLines, hourLine, netLine, reverseLine, declaredLine, realLine, testLine, deviationLine, powerLine, readingLine, sinceLine, repairLine, spansLine, readLines}
 
--- a place without a span, a unit outside the plant, and the record of a refused reading
+-- a place without a span
 abbrev pub noSpan : Span
 noSpan = record { minutes = 0; kind = 0; cause = 0; capability = record { 0 = 0 } }
 
+-- a unit of zeros with these places for spans
 abbrev pub emptyUnit : List Span → UnitRecord
 emptyUnit span =
     record {
@@ -38,6 +39,7 @@ emptyUnit span =
       span = span;
     }
 
+-- a unit outside the plant, and the record of a refused reading
 abbrev pub noUnit : UnitRecord
 noUnit = emptyUnit (replicate mostSpans noSpan)
 
@@ -66,6 +68,7 @@ spanIn l i =
 abbrev pub wholeHour : GrossKwh → Span
 wholeHour declared = record { minutes = hourMinutes; kind = 1; cause = 0; capability = declared }
 
+-- the span of place i, and how many there are
 unfoldable pub spanBy : Line → GrossKwh → ℕ → Span
 spanBy l declared i = cond (blank l) (cond (eqb i 0) (wholeHour declared) noSpan) (spanIn l i)
 

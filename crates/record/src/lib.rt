@@ -159,6 +159,7 @@ fn value_or(cells: &[u64], k: usize, blank: u64) -> u64
     lines::number_at(cells, k, 0)
 }
 
+// A place without a span.
 pub fn no_span() -> Span
     ensures { λ r. ⌜ r ≡ noSpan ⌝ }
 {
@@ -220,6 +221,7 @@ fn span_list(cells: &[u64], k: usize, declared: GrossKwh) -> [Span; 6]
     span
 }
 
+// A unit outside the plant.
 pub fn no_unit() -> UnitRecord
     ensures { λ r. ⌜ r ≡ noUnit ⌝ }
 {
@@ -238,6 +240,7 @@ pub fn no_unit() -> UnitRecord
     }
 }
 
+// The record of a refused reading.
 pub fn no_record() -> Record
     ensures { λ r. ⌜ r ≡ noRecord ⌝ }
 {

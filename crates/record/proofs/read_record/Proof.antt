@@ -9,10 +9,11 @@ use lib.ListN.{length, drop, take, length-drop}
 use Rattle.text.proofs.Walk.{rest}
 use Rattle.lines.specs.declared.ReadAnswer.the-variants.{Refused}
 use Rattle.lines.specs.Cells.{Shows}
+use Rattle.lines.proofs.Reading.{start-within}
 use Rattle.record.specs.Rows.{readLines}
 use Rattle.record.specs.Hour.{recordOf}
 use Rattle.record.proofs.Facts.{place-in}
-use Rattle.record.proofs.Laws.{shown-record, start-within, start-bad, start-good}
+use Rattle.record.proofs.Laws.{shown-record, start-bad, start-good}
 use borrow.Author.Needs.{needs}
 use Rattle.record.proofs.read_record.Statement.{statement}
 use Rattle.record.proofs.read_record.Tie as tie
