@@ -5,7 +5,7 @@ ghost use Prim.Native.Nat.{_+_, _^_, _≤_, _<_};
 ghost use lib.ListN.{length, getD};
 ghost use Rattle.lines.specs.Lines.{Reading, lineRead, readLine};
 ghost use Rattle.lines.specs.Cells.{lineIn, withLine, Shows};
-ghost use Rattle.lines.specs.Refusals.{textRefusal, badStart, answerOf};
+ghost use Rattle.lines.specs.Refusals.{textNumber, textLine, textRefusal, badStart, answerOf};
 use text::Line;
 use text::Row;
 
@@ -53,6 +53,30 @@ pub fn text_refusal(number: u64, line: u64) -> TextRefusal
         return TextRefusal::OfferOrder(line);
     }
     TextRefusal::TextEnds(line)
+}
+
+// Document 01's number of a refusal.
+pub fn text_number(refusal: TextRefusal) -> u64
+    ensures { λ r. ⌜ r ≡ textNumber refusal ⌝ }
+{
+    match refusal {
+        TextRefusal::NotDue(_) => 1,
+        TextRefusal::BadValue(_) => 2,
+        TextRefusal::OfferOrder(_) => 3,
+        TextRefusal::TextEnds(_) => 4,
+    }
+}
+
+// The line of a refusal.
+pub fn text_line(refusal: TextRefusal) -> u64
+    ensures { λ r. ⌜ r ≡ textLine refusal ⌝ }
+{
+    match refusal {
+        TextRefusal::NotDue(line) => line,
+        TextRefusal::BadValue(line) => line,
+        TextRefusal::OfferOrder(line) => line,
+        TextRefusal::TextEnds(line) => line,
+    }
 }
 
 // Whether a text is too long or the start is past its end.

@@ -1,0 +1,17 @@
+-- The places of the spans are what `no_span` gives.
+use mathlib.Core.Path.{ap}
+use lib.ListN.{replicate}
+use Rattle.record.specs.declared.Span.{Span}
+use Rattle.record.specs.Hour.{emptyUnit}
+use borrow.Author.Needs.{needs}
+use Rattle.record.proofs.no_unit.Statement.{statement}
+use Rattle.record.proofs.no_unit.Tie as tie
+
+no-span-requires : tie.Need-no-span-requires
+no-span-requires c κs = search needs
+
+returns : tie.Need-returns
+returns c = ap (λ (s : Span). emptyUnit (replicate 6 s)) (c .no-span .ensures)
+
+pub no-unit-spec : {M : Type 1} → statement M
+no-unit-spec = tie.close (tie.spec no-span-requires returns)
