@@ -45,7 +45,7 @@ pub fn energy_pay(cost: u64) -> u64
 }
 
 // max(a - b, 0)
-fn above(a: u64, b: u64) -> u64
+pub fn above(a: u64, b: u64) -> u64
     ensures { λ r. ⌜ r ≡ a - b ⌝ }
 {
     if a < b {
