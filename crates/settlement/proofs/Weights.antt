@@ -44,7 +44,7 @@ module _ (own : ℕ) (u : UnitRecord) (h : UnitInRange u) where
         arith,
         h .spans-most,
         sum-most 0 n (λ i. countedAs own (u .test) kind (spanAt u i)) (omega arith) 60000000
-        (λ i a b. counted-most own (u .test) kind (spanAt u i) (h .test) (h .span i (omega arith))),
+            (λ i a b. counted-most own (u .test) kind (spanAt u i) (h .test) (h .span i (omega arith))),
       )
 
   pub proportion-most : (kind : ℕ) → proportion own u kind ≤ 360000000
@@ -83,7 +83,7 @@ module _ (own : ℕ) (u : UnitRecord) (h : UnitInRange u) where
           omega (
             arith,
             sum-zero kinds (λ i. getD (shares w (u .deviation .0)) i 0)
-            (λ i l. ap (λ s. getD s i 0) (shares-zero w (u .deviation .0) (omega arith)) ∙ getD-replicate (length w) i 0 0 (omega (arith, proportions-length))),
+                (λ i l. ap (λ s. getD s i 0) (shares-zero w (u .deviation .0) (omega arith)) ∙ getD-replicate (length w) i 0 0 (omega (arith, proportions-length))),
           )
 
   pub split-ready : SplitReady (deviationsOf own u)

@@ -27,9 +27,13 @@ readingsHold r units =
     let total = readingsTotal r units .0 in
     not (ltb (r .net .0) total || (allMeasured r units && not (eqb total (r .net .0))))
 
+-- "all proportions 0", of the kinds that `deviation` is split into
+unfoldable pub noProportion : ℕ → UnitRecord → Bool
+noProportion own u = every kinds (λ j. eqb (proportion own u (firstKind + j)) 0)
+
 -- 33: "deviation over 0, all proportions 0", of a unit
 unfoldable pub unitProportioned : ℕ → UnitRecord → Bool
-unitProportioned own u = not (ltb 0 (u .deviation .0) && every kinds (λ j. eqb (proportion own u (firstKind + j)) 0))
+unitProportioned own u = not (ltb 0 (u .deviation .0) && noProportion own u)
 
 -- of each unit of the plant
 unfoldable pub proportionsHold : Sheet → Record → Bool

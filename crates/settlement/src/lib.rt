@@ -25,8 +25,8 @@ ghost use Rattle.record.proofs.InRange.{SpanInRange, UnitInRange, InRange};
 ghost use Rattle.formulas.specs.Items.{firstKind, kinds};
 ghost use Rattle.settlement.specs.Deviation.{shortMinutes, countedAs, proportion as «the_proportion», proportions as «the_proportions», deviationsOf};
 ghost use Rattle.settlement.specs.Hour.{noAmounts, ratesOf, energyItem, availabilityItem, refundItem, testItem, amountsOf, plantOf, hourResult};
-ghost use Rattle.settlement.specs.Refusals.{readingsTotal, allMeasured, readingsHold, unitProportioned, proportionsHold};
-ghost use Rattle.settlement.specs.Ranges.{HourRead, HourReady, RatesReady, SplitReady, UnitReady};
+ghost use Rattle.settlement.specs.Refusals.{readingsTotal, allMeasured, readingsHold, noProportion, unitProportioned, proportionsHold};
+ghost use Rattle.settlement.specs.Ranges.{HourRead, HourReady, RatesReady, SplitReady, UnitReady, UnitsReady, placeAmounts};
 
 // The number of items of a unit.
 pub const ITEMS: usize = 5;
@@ -178,4 +178,299 @@ fn unit_amounts(
     Amounts {
         item: [paid, available, refunded, tested, owed],
     }
+}
+
+fn no_amounts() -> Amounts
+    ensures { λ r. ⌜ r ≡ noAmounts ⌝ }
+{
+    Amounts {
+        item: [0i64; ITEMS],
+    }
+}
+
+// What of the drawn energy's price is due of the unit at place k: all of it of the lowest-numbered unit, nothing of the others.
+fn drawn_at(units: u64, k: usize, drawn: u64) -> u64
+    ensures { λ r. ⌜ r ≡ cond (isLowest units k) drawn 0 ⌝ }
+{
+    if units::lowest_at(units, k) {
+        return drawn;
+    }
+    0
+}
+
+// The amounts of the place k, 0 outside the plant.
+fn place_amounts(
+    units: u64,
+    k: usize,
+    rates: Rates,
+    own: u64,
+    offer: Offer,
+    commitment: HubKwh,
+    u: UnitRecord,
+    energy: HubGrains,
+    drawn: u64,
+) -> Amounts
+    requires { ⌜ RatesReady rates × (memberAt units k ≡ true → UnitReady own offer commitment u energy) × (drawn ≤ 80000000000) ⌝ }
+    ensures { λ r. ⌜ r ≡ cond (memberAt units k) (amountsOf rates own offer commitment u energy (cond (isLowest units k) drawn 0)) noAmounts ⌝ }
+{
+    if units::member_at(units, k) {
+        let due = drawn_at(units, k, drawn);
+        return unit_amounts(rates, own, offer, commitment, u, energy, due);
+    }
+    no_amounts()
+}
+
+// The amounts of each place, by the units' own use and energies, and the price of the drawn energy.
+fn hour_amounts(
+    rates: Rates,
+    plant: Plant,
+    own: [u64; 8],
+    hour: Record,
+    energy: [HubGrains; 8],
+    drawn: u64,
+) -> [Amounts; 8]
+    requires { ⌜ RatesReady rates × UnitsReady (plant .units) own (plant .offer) (plant .commitment) (hour .unit) energy × (drawn ≤ 80000000000) ⌝ }
+    ensures { λ r. ⌜ r ≡ tabulate 8 (placeAmounts rates (plant .units) own (plant .offer) (plant .commitment) (hour .unit) energy drawn) ⌝ }
+{
+    let units = plant.units;
+    let offers = plant.offer;
+    let commitments = plant.commitment;
+    let unit = hour.unit;
+    let mut amounts = [no_amounts(); 8];
+    let mut k: usize = 0;
+    while k < 8 {
+        let offer = offers[k];
+        let commitment = commitments[k];
+        let u = unit[k];
+        let its = energy[k];
+        amounts[k] = place_amounts(units, k, rates, own[k], offer, commitment, u, its, drawn);
+        k += 1;
+    }
+    amounts
+}
+
+// Each unit's own use.
+fn own_of(sheet: Sheet) -> [u64; 8]
+    ensures { λ r. ⌜ r ≡ tabulate 8 (λ (k : ℕ). «sheet_unit» (sheet .unit) k .own) ⌝ }
+{
+    let mut own = [0u64; 8];
+    let mut k: usize = 0;
+    while k < 8 {
+        let u = sheet.unit[k];
+        own[k] = u.own;
+        k += 1;
+    }
+    own
+}
+
+// Each unit's nominal power.
+fn nominal_of(sheet: Sheet) -> [GrossKwh; 8]
+    ensures { λ r. ⌜ r ≡ tabulate 8 (λ (k : ℕ). «sheet_unit» (sheet .unit) k .nominal) ⌝ }
+{
+    let mut nominal = [GrossKwh(0); 8];
+    let mut k: usize = 0;
+    while k < 8 {
+        let u = sheet.unit[k];
+        let its = u.nominal;
+        nominal[k] = its;
+        k += 1;
+    }
+    nominal
+}
+
+// Each unit's offer of an hour, counted from 0.
+fn offers_of(sheet: Sheet, h: usize) -> [Offer; 8]
+    requires { ⌜ h < 24 ⌝ }
+    ensures { λ r. ⌜ r ≡ tabulate 8 (λ (k : ℕ). offerAt («sheet_unit» (sheet .unit) k) h) ⌝ }
+{
+    let mut offers = [offer::no_offer(); 8];
+    let mut k: usize = 0;
+    while k < 8 {
+        let u = sheet.unit[k];
+        offers[k] = u.offers[h];
+        k += 1;
+    }
+    offers
+}
+
+// Each unit's `real`.
+fn real_of(hour: Record) -> [NetKwh; 8]
+    ensures { λ r. ⌜ r ≡ tabulate 8 (λ (k : ℕ). «record_unit» hour k .real) ⌝ }
+{
+    let mut real = [NetKwh(0); 8];
+    let mut k: usize = 0;
+    while k < 8 {
+        let u = hour.unit[k];
+        let its = u.real;
+        real[k] = its;
+        k += 1;
+    }
+    real
+}
+
+// What the formulas use of the sheet in an hour.
+fn rates_of(sheet: Sheet, hour: u64) -> Rates
+    requires { ⌜ (1 ≤ hour) × (hour ≤ 24) ⌝ }
+    ensures { λ r. ⌜ r ≡ ratesOf sheet hour ⌝ }
+{
+    let h = (hour - 1) as usize;
+    Rates {
+        season: formulas::in_season(sheet.month, sheet.day),
+        loss: sheet.loss,
+        bar: sheet.bar,
+        cpf: sheet.cpf[h],
+    }
+}
+
+// What the allocation rests on in the record's hour.
+fn plant_of(sheet: Sheet, hour: Record, commitment: [HubKwh; 8]) -> Plant
+    requires { ⌜ (1 ≤ hour .hour) × (hour .hour ≤ 24) ⌝ }
+    ensures { λ r. ⌜ r ≡ plantOf sheet hour commitment ⌝ }
+{
+    let h = (hour.hour - 1) as usize;
+    Plant {
+        loss: sheet.loss,
+        units: sheet.units,
+        real: real_of(hour),
+        nominal: nominal_of(sheet),
+        commitment: commitment,
+        offer: offers_of(sheet, h),
+    }
+}
+
+// An hour's energies and amounts, from the sheet, the record and the hour's commitments.
+pub fn settle_hour(sheet: Sheet, hour: Record, commitment: [HubKwh; 8]) -> HourResult
+    requires { ⌜ HourReady sheet hour commitment ⌝ }
+    ensures { λ r. ⌜ r ≡ hourResult sheet hour commitment ⌝ }
+{
+    let rates = rates_of(sheet, hour.hour);
+    let own = own_of(sheet);
+    let plant = plant_of(sheet, hour, commitment);
+    let energy = allocation::allocate(hour.net, hour.reverse, plant);
+    let drawn = formulas::drawn_pay(hour.reverse, hour.net, sheet.ceiling, sheet.loss);
+    let amounts = hour_amounts(rates, plant, own, hour, energy, drawn);
+    HourResult {
+        energy: energy,
+        amounts: amounts,
+    }
+}
+
+// The reading of the unit at place k, 0 outside the plant.
+fn reading_at(units: u64, k: usize, u: UnitRecord) -> u64
+    ensures { λ r. ⌜ r ≡ cond (memberAt units k) (u .reading .0) 0 ⌝ }
+{
+    if units::member_at(units, k) {
+        return u.reading.0;
+    }
+    0
+}
+
+// The total of the plant's readings.
+fn readings_total(hour: Record, units: u64) -> NetKwh
+    requires { ⌜ InRange units hour ⌝ }
+    ensures { λ r. ⌜ r ≡ readingsTotal hour units ⌝ }
+{
+    let mut total: u64 = 0;
+    let mut k: usize = 0;
+    while k < 8 {
+        let u = hour.unit[k];
+        total += reading_at(units, k, u);
+        k += 1;
+    }
+    NetKwh(total)
+}
+
+// Whether the unit at place k is measured, true outside the plant.
+fn measured_at(units: u64, k: usize, u: UnitRecord) -> bool
+    ensures { λ r. ⌜ r ≡ cond (memberAt units k) (u .measured) true ⌝ }
+{
+    if units::member_at(units, k) {
+        return u.measured;
+    }
+    true
+}
+
+// Whether each unit of the plant is measured.
+fn all_measured(hour: Record, units: u64) -> bool
+    ensures { λ r. ⌜ r ≡ allMeasured hour units ⌝ }
+{
+    let mut k: usize = 0;
+    while k < 8 {
+        let u = hour.unit[k];
+        if !measured_at(units, k, u) {
+            return false;
+        }
+        k += 1;
+    }
+    true
+}
+
+// Whether the readings keep to the plant's `net`: refusal 32 where they do not.
+pub fn readings_hold(hour: Record, units: u64) -> bool
+    requires { ⌜ InRange units hour ⌝ }
+    ensures { λ r. ⌜ r ≡ readingsHold hour units ⌝ }
+{
+    let total = readings_total(hour, units);
+    if hour.net.0 < total.0 {
+        return false;
+    }
+    if all_measured(hour, units) {
+        return total.0 == hour.net.0;
+    }
+    true
+}
+
+// Whether all sums of a unit's kinds are 0.
+fn no_proportion(own: u64, u: UnitRecord) -> bool
+    requires { ⌜ (own ≤ 10000) × UnitInRange u ⌝ }
+    ensures { λ r. ⌜ r ≡ noProportion own u ⌝ }
+{
+    let mut j: usize = 0;
+    while j < KINDS {
+        if proportion(own, u, 2 + j as u64) != 0 {
+            return false;
+        }
+        j += 1;
+    }
+    true
+}
+
+// Whether a unit has no deviation, or a proportion over 0.
+fn unit_proportioned(own: u64, u: UnitRecord) -> bool
+    requires { ⌜ (own ≤ 10000) × UnitInRange u ⌝ }
+    ensures { λ r. ⌜ r ≡ unitProportioned own u ⌝ }
+{
+    if u.deviation.0 == 0 {
+        return true;
+    }
+    !no_proportion(own, u)
+}
+
+// The same of the place k, true outside the plant.
+fn proportioned_at(units: u64, k: usize, own: u64, u: UnitRecord) -> bool
+    requires { ⌜ (memberAt units k ≡ true → (own ≤ 10000) × UnitInRange u) ⌝ }
+    ensures { λ r. ⌜ r ≡ cond (memberAt units k) (unitProportioned own u) true ⌝ }
+{
+    if units::member_at(units, k) {
+        return unit_proportioned(own, u);
+    }
+    true
+}
+
+// Whether each unit of the plant that has a deviation has a proportion over 0: refusal 33 where one has none.
+pub fn proportions_hold(sheet: Sheet, hour: Record) -> bool
+    requires { ⌜ HourRead sheet hour ⌝ }
+    ensures { λ r. ⌜ r ≡ proportionsHold sheet hour ⌝ }
+{
+    let units = sheet.units;
+    let own = own_of(sheet);
+    let mut k: usize = 0;
+    while k < 8 {
+        let u = hour.unit[k];
+        if !proportioned_at(units, k, own[k], u) {
+            return false;
+        }
+        k += 1;
+    }
+    true
 }

@@ -27,7 +27,7 @@ availability-pay-requires : tie.Need-availability-pay-requires
 availability-pay-requires c κs = search needs
 
 paid-requires : tie.Need-paid-requires
-paid-requires c κs = 
+paid-requires c κs =
     let start = c .before .before in
     let a = start .args in
     omega (

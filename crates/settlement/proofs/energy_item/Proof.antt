@@ -25,7 +25,7 @@ energy-pay-requires : tie.Need-energy-pay-requires
 energy-pay-requires c κs = search needs
 
 paid-requires : tie.Need-paid-requires
-paid-requires c κs = 
+paid-requires c κs =
     let start = c .before .before in
     let a = start .args in
     let m = cost-le (a .offer) (a .commitment) (start .pre .0) (a .energy .0) in

@@ -32,7 +32,7 @@ counted-as-requires : tie.Need-counted-as-requires Inv-loop μ-loop
 counted-as-requires c κs = let start = c .before .before .before .before in (start .pre .0, start .pre .1 .test, start .pre .1 .span (c .before .before .loop .i) (omega arith))
 
 add-total : tie.Need-add-total Inv-loop μ-loop
-add-total c = 
+add-total c =
     let start = c .before .before .before .before .before in
     let l = c .before .before .before .loop in
     let f : ℕ → ℕ = λ j. countedAs (start .args .own) (start .args .t2 .test) (start .args .kind) (spanAt (start .args .t2) j) in
@@ -46,7 +46,7 @@ loop-less : tie.Need-loop-less Inv-loop μ-loop
 loop-less c = search needs
 
 loop-again : tie.Need-loop-again Inv-loop μ-loop
-loop-again c = 
+loop-again c =
     let start = c .before .before .before .before .before in
     let l = c .before .before .before .loop in
     let f : ℕ → ℕ = λ j. countedAs (start .args .own) (start .args .t2 .test) (start .args .kind) (spanAt (start .args .t2) j) in
@@ -55,7 +55,7 @@ loop-again c =
 
 returns : tie.Need-returns Inv-loop μ-loop
 unfolding proportion
-returns c = 
+returns c =
     let start = c .before .before .before in
     let l = c .before .loop in
     let e : l .i ≡ min (start .args .t2 .spans) 6 = omega (arith, start .pre .1 .spans-most) in

@@ -41,7 +41,7 @@ loop-less : tie.Need-loop-less Inv-loop μ-loop
 loop-less c = search needs
 
 loop-again : tie.Need-loop-again Inv-loop μ-loop
-loop-again c = 
+loop-again c =
     let a = c .before .before .before .args in
     let l = c .before .before .loop in
     let f : ℕ → ℕ = λ i. proportion (a .own) (a .u) (firstKind + i) in
@@ -49,7 +49,7 @@ loop-again c =
 
 returns : tie.Need-returns Inv-loop μ-loop
 unfolding proportions
-returns c = 
+returns c =
     let a = c .before .before .args in
     let l = c .before .loop in
     let f : ℕ → ℕ = λ i. proportion (a .own) (a .u) (firstKind + i) in

@@ -27,14 +27,14 @@ declaration-ceiling-requires : tie.Need-declaration-ceiling-requires
 declaration-ceiling-requires c κs = search needs
 
 net-of-requires : tie.Need-net-of-requires
-net-of-requires c κs = 
+net-of-requires c κs =
     let start = c .before in
     let a = start .args in
     let m = ceiling-most (a .rates .season) (a .u .power) in
     (omega (arith, m, start .pre .3 .power, ap (λ (g : GrossKwh). g .0) (c .declaration-ceiling .ensures)), omega (arith, start .pre .1))
 
 refund-requires : tie.Need-refund-requires
-refund-requires c κs = 
+refund-requires c κs =
     let start = c .before .before in (
       omega (arith, start .pre .2),
       omega (arith, start .pre .3 .real),
@@ -44,14 +44,14 @@ refund-requires c κs =
     )
 
 owed-requires : tie.Need-owed-requires
-owed-requires c κs = 
+owed-requires c κs =
     let start = c .before .before .before in
     let a = start .args in
     omega (
       arith,
       magnitude c,
       refund-most (a .declared) (a .rates .cpf) (a .rates .bar) (start .pre .2) (start .pre .0 .cpf) (start .pre .0 .bar) (a .u .real) (a .d)
-      (allowedNet (a .rates) (a .own) (a .u)),
+          (allowedNet (a .rates) (a .own) (a .u)),
     )
 
 returns : tie.Need-returns

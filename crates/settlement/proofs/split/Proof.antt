@@ -22,7 +22,7 @@ slice-aggregate-apportion-2 : tie.Need-slice-aggregate-apportion-2
 slice-aggregate-apportion-2 c = search needs
 
 apportion-requires : tie.Need-apportion-requires
-apportion-requires c κs = 
+apportion-requires c κs =
     let start = c .before .before .before in
     let a = start .args in
     let w = c .before .before .proportions .ensures in
@@ -31,7 +31,7 @@ apportion-requires c κs =
 
 returns : tie.Need-returns
 unfolding deviationsOf
-returns c = 
+returns c =
     let a = c .before .before .before .before .before .args in
     let e = c .before .apportion .ensures ∙ ap (λ (w : List ℕ). shares w (a .u .deviation .0)) (c .before .before .before .before .proportions .ensures) in
     λ i. record { kwh = e i }

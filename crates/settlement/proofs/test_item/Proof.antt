@@ -32,7 +32,7 @@ counted-deviation-requires : tie.Need-counted-deviation-requires
 counted-deviation-requires c κs = λ i l. omega (arith, deviation-most (c .args .d) 1000000 (c .pre .2) i l)
 
 is-charged-requires : tie.Need-is-charged-requires
-is-charged-requires c κs = 
+is-charged-requires c κs =
     let start = c .before in
     (omega (arith, counted-most (start .args .d) 1000000 (start .pre .2) (start .args .u .repair), ap (λ (n : NetKwh). n .0) (c .counted-deviation .ensures)), omega (arith, start .pre .0 .loss))
 
@@ -40,12 +40,12 @@ weighted-requires : tie.Need-weighted-requires
 weighted-requires c κs = λ i l. omega (arith, deviation-most (c .before .before .before .args .d) 1000000 (c .before .before .before .pre .2) i l)
 
 charge-of-requires : tie.Need-charge-of-requires
-charge-of-requires c κs = 
+charge-of-requires c κs =
     let start = c .before .before .before .before in
     (omega (arith, weighted-most (start .args .d) 1000000 (start .pre .2) (start .args .u .repair), c .weighted .ensures), start .pre .0 .cpf, start .pre .0 .bar)
 
 owed-requires : tie.Need-owed-requires
-owed-requires c κs = 
+owed-requires c κs =
     let start = c .before .before .before .before .before in
     let a = start .args in
     let w = weighted-most (a .d) 1000000 (start .pre .2) (a .u .repair) in

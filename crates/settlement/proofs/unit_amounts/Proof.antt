@@ -1,47 +1,61 @@
-use borrow.Author.Needs.{needs}
+-- Each item is the definition's, by the same D and the same split.
+-- Assumes nothing.
+use mathlib.Core.Path.{_≡_, _∙_, ap, sym}
+use Prim.Native.Nat.{_≤_}
+use mathlib.Core.List.{[], _∷_}
+use native.Mathlib.Omega.{arith}
+use Rattle.energy.specs.declared.NetKwh.{NetKwh}
+use Rattle.energy.proofs.Laws.{net-le}
+use Rattle.formulas.specs.declared.Deviations.{Deviations}
+use Rattle.formulas.proofs.Amounts.{back}
+use Rattle.settlement.specs.Hour.{availabilityItem, refundItem, testItem, amountsOf}
+use Rattle.settlement.specs.Ranges.{SplitReady}
+use Rattle.settlement.proofs.Weights.{split-ready}
 use Rattle.settlement.proofs.unit_amounts.Statement.{statement}
 use Rattle.settlement.proofs.unit_amounts.Tie as tie
-use Rattle.settlement.proofs.unit_amounts.Reads as reads
-use Rattle.settlement.proofs.unit_amounts.Lts as lts
-use Rattle.energy.proofs.net_of.Reads as net-of-reads
-use Rattle.formulas.proofs.owed.Reads as owed-reads
-use Rattle.settlement.proofs.availability_item.Reads as availability-item-reads
-use Rattle.settlement.proofs.energy_item.Reads as energy-item-reads
-use Rattle.settlement.proofs.refund_item.Reads as refund-item-reads
-use Rattle.settlement.proofs.split.Reads as split-reads
-use Rattle.settlement.proofs.test_item.Reads as test-item-reads
 
--- src/lib.rt:171:9
+-- D is in range, and so is the split
+declared-most : (c : tie.After-net-of) → c .net-of .result .0 ≤ 1000000
+declared-most c =
+    let start = c .before in
+    omega (arith, ap (λ (n : NetKwh). n .0) (c .net-of .ensures), net-le (start .args .u .declared) (start .args .own), start .pre .1 .in-range .declared)
+
+split-here : (c : tie.After-split) → SplitReady (c .split .result)
+split-here c = let start = c .before .before in rw (c .split .ensures) (split-ready (start .args .own) (start .args .u) (start .pre .1 .in-range))
+
 net-of-requires : tie.Need-net-of-requires
-net-of-requires c κs = search needs
+net-of-requires c κs = (omega (arith, c .pre .1 .in-range .declared), omega (arith, c .pre .1 .own-use))
 
--- src/lib.rt:172:9
 split-requires : tie.Need-split-requires
-split-requires c κs = search needs
+split-requires c κs = (omega (arith, c .before .pre .1 .own-use), c .before .pre .1 .in-range)
 
--- src/lib.rt:173:9
 energy-item-requires : tie.Need-energy-item-requires
-energy-item-requires c κs = search needs
+energy-item-requires c κs = let r = c .before .before .pre .1 in (r .offered, r .committed, r .allocated)
 
--- src/lib.rt:174:9
 availability-item-requires : tie.Need-availability-item-requires
-availability-item-requires c κs = search needs
+availability-item-requires c κs = (c .before .before .before .pre .0, declared-most (c .before .before), c .before .before .before .pre .1 .committed)
 
--- src/lib.rt:175:9
 refund-item-requires : tie.Need-refund-item-requires
-refund-item-requires c κs = search needs
+refund-item-requires c κs = (c .before .before .before .before .pre .0, c .before .before .before .before .pre .1 .own-use, declared-most (c .before .before .before), c .before .before .before .before .pre .1 .in-range, split-here (c .before .before))
 
--- src/lib.rt:176:9
 test-item-requires : tie.Need-test-item-requires
-test-item-requires c κs = search needs
+test-item-requires c κs = (c .before .before .before .before .before .pre .0, c .before .before .before .before .before .pre .1 .in-range, split-here (c .before .before .before))
 
--- src/lib.rt:177:9
 owed-requires : tie.Need-owed-requires
-owed-requires c κs = search needs
+owed-requires c κs = omega (arith, c .before .before .before .before .before .before .pre .2)
 
--- src/lib.rt:159:1
 returns : tie.Need-returns
-returns c = search needs
+unfolding amountsOf
+returns c =
+    let a = c .before .before .before .before .before .before .before .args in
+    let n = c .before .before .before .before .before .before .net-of .ensures in
+    let d = c .before .before .before .before .before .split .ensures in
+    let paid = back _ (c .before .before .before .before .energy-item .ok) ∙ c .before .before .before .before .energy-item .ensures in
+    let available = back _ (c .before .before .before .availability-item .ok) ∙ (c .before .before .before .availability-item .ensures ∙ ap (λ (n : NetKwh). availabilityItem (a .rates) n (a .commitment)) n) in
+    let refunded = back _ (c .before .before .refund-item .ok) ∙ (c .before .before .refund-item .ensures ∙ (λ i. refundItem (a .rates) (a .own) (n i) (a .u) (d i))) in
+    let tested = back _ (c .before .test-item .ok) ∙ (c .before .test-item .ensures ∙ ap (λ (d : Deviations). testItem (a .rates) (a .u) d (a .energy)) d) in
+    let owed = back _ (c .owed .ok) ∙ c .owed .ensures in
+    λ i. record { item = paid i ∷ (available i ∷ (refunded i ∷ (tested i ∷ (owed i ∷ [])))) }
 
 pub unit-amounts-spec : {M : Type 1} → statement M
 unit-amounts-spec =
