@@ -62,13 +62,11 @@ module _ (sheet : Sheet) (r : Record) where
     pub sheet-unit-in : (k : ℕ) → memberAt (sheet .units) k ≡ true → SheetUnitInRange (sheetUnit (sheet .unit) k)
     sheet-unit-in k m = sheet-in .unit k (place-lt (sheet .units) k m) m
 
-    pub own-most : (k : ℕ) → memberAt (sheet .units) k ≡ true → getD (tabulate 8 (ownAt sheet)) k 0 ≤ 2000
-    own-most k m = omega (arith, own-at k (place-lt (sheet .units) k m), sheet-unit-in k m .own)
+    pub own-most : (k : ℕ) → memberAt (sheet .units) k ≡ true → ownAt sheet k ≤ 2000
+    own-most k m = sheet-unit-in k m .own
 
-    hour-offered : (k : ℕ) → memberAt (sheet .units) k ≡ true → offerHolds (getD (tabulate 8 (hourOffer sheet r)) k pastOffer) ≡ true
-    hour-offered k m =
-        rw (offer-at k (place-lt (sheet .units) k m))
-        (sheet-unit-in k m .offers (r .hour - 1) (omega (arith, h .in-range .hour-least, h .in-range .hour-most)))
+    hour-offered : (k : ℕ) → memberAt (sheet .units) k ≡ true → offerHolds (hourOffer sheet r k) ≡ true
+    hour-offered k m = sheet-unit-in k m .offers (r .hour - 1) (omega (arith, h .in-range .hour-least, h .in-range .hour-most))
 
     pub rates-ready : RatesReady (ratesOf sheet (r .hour))
     unfolding ratesOf
@@ -106,7 +104,7 @@ module _ (sheet : Sheet) (r : Record) where
                     let e = ap (λ (g : GrossKwh). g .0) nominal in
                     (omega (arith, e, u .nominal-least), omega (arith, e, u .nominal-most));
                 committed = h .committed k m;
-                offered = hour-offered (h .read) k m;
+                offered = rw (offer-at k l) (hour-offered (h .read) k m);
               };
         }
 
@@ -114,9 +112,10 @@ module _ (sheet : Sheet) (r : Record) where
     pub hour-most : (k : ℕ) → k < 8 → grainsAt (energies (r .net) (r .reverse) (plantOf sheet r commitment)) k ≤ 80000000000
     hour-most = energy-most (r .net) (r .reverse) (plantOf sheet r commitment) plant-holds (net-most (h .read))
 
-    pub units-ready : UnitsReady (sheet .units) (tabulate 8 (ownAt sheet)) (tabulate 8 (hourOffer sheet r)) commitment (r .unit)
-        (energies (r .net) (r .reverse) (plantOf sheet r commitment))
-    units-ready k m =
+    pub unit-ready : (k : ℕ) → memberAt (sheet .units) k ≡ true
+        → UnitReady (ownAt sheet k) (hourOffer sheet r k) (getD commitment k (record { 0 = 0 })) (recordUnit r k)
+        (getD (energies (r .net) (r .reverse) (plantOf sheet r commitment)) k (record { 0 = 0 }))
+    unit-ready k m =
         record {
           own-use = own-most (h .read) k m;
           offered = hour-offered (h .read) k m;
@@ -124,3 +123,7 @@ module _ (sheet : Sheet) (r : Record) where
           in-range = h .read .in-range .unit k m;
           allocated = hour-most k (place-lt (sheet .units) k m);
         }
+
+    pub units-ready : UnitsReady (sheet .units) (tabulate 8 (ownAt sheet)) (tabulate 8 (hourOffer sheet r)) commitment (r .unit)
+        (energies (r .net) (r .reverse) (plantOf sheet r commitment))
+    units-ready k m = let l = place-lt (sheet .units) k m in rw (own-at k l, offer-at k l) (unit-ready k m)

@@ -34,6 +34,13 @@ items = 5
 abbrev pub noAmounts : Amounts
 noAmounts = record { item = replicate items (pos 0) }
 
+-- what an index past the end reads, and an item, from 0, of the unit at place k
+abbrev pub pastAmounts : Amounts
+pastAmounts = record { item = [] }
+
+abbrev pub amountAt : List Amounts → ℕ → ℕ → ℤ
+amountAt amounts k i = getD (getD amounts k pastAmounts .item) i (pos 0)
+
 -- what the formulas use of the sheet in an hour, 1 to 24
 unfoldable pub ratesOf : Sheet → ℕ → Rates
 ratesOf sheet hour =

@@ -55,7 +55,8 @@ proportioned-at-requires : tie.Need-proportioned-at-requires Inv-loop μ-loop
 proportioned-at-requires c κs = λ m.
     let start = c .before .before .before .before in
     let k = c .before .before .loop .k in
-    (rw (c .before .before .before .own-of .ensures) (omega (arith, own-most (start .args .sheet) (start .args .t2) (start .pre) k m)), start .pre .in-range .unit k m)
+    let e = ap (λ s. getD s k 0) (c .before .before .before .own-of .ensures) ∙ own-at (start .args .sheet) (start .args .t2) k (omega arith) in
+    (omega (arith, e, own-most (start .args .sheet) (start .args .t2) (start .pre) k m), start .pre .in-range .unit k m)
 
 returns : tie.Need-returns Inv-loop μ-loop
 unfolding proportionsHold
