@@ -103,12 +103,13 @@ pub fn declaration_ceiling(season: bool, power: GrossKwh) -> GrossKwh
     GrossKwh(power.0 + least(power.0 * 3 / 100, 3000))
 }
 
-// The kWh that item 3 takes back, by D, `real`, the deviations and net(A).
+// The kWh that item 3 takes back, by D, `real`, the deviations and net(A): what `real`, d5 and d7 leave of D, or what is above net(A).
 pub fn refund_kwh(declared: NetKwh, real: NetKwh, d: Deviations, allowed: NetKwh) -> NetKwh
-    requires { ⌜ (real .0 ≤ 1000000000) × Bounded d ⌝ }
     ensures { λ r. ⌜ r ≡ refundKwh declared real d allowed ⌝ }
 {
-    let short = above(declared.0, real.0 + of_kind(d, 5) + of_kind(d, 7));
+    let unable = above(declared.0, real.0);
+    let unexcused = above(unable, of_kind(d, 5));
+    let short = above(unexcused, of_kind(d, 7));
     let over = above(declared.0, allowed.0);
     if short < over {
         return NetKwh(over);
@@ -125,7 +126,7 @@ pub fn refund(
     cpf: u64,
     bar: u64,
 ) -> u64
-    requires { ⌜ (declared .0 ≤ 10000000) × (real .0 ≤ 1000000000) × Bounded d × (cpf ≤ 10000) × (bar ≤ 1000000) ⌝ }
+    requires { ⌜ (declared .0 ≤ 10000000) × (cpf ≤ 10000) × (bar ≤ 1000000) ⌝ }
     ensures { λ r. ⌜ r ≡ «the_refund» declared real d allowed cpf bar ⌝ }
 {
     energy::pay_of(refund_kwh(declared, real, d, allowed), cpf, bar)

@@ -26,7 +26,7 @@ use Rattle.record.proofs.InRange.{InRange}
 use Rattle.allocation.specs.Fill.{grainsAt}
 use Rattle.allocation.specs.Allocation.{ceilings, energies, plantEnergy, Allocated}
 use Rattle.allocation.proofs.Laws.{energies-length, energies-allocated, energy-none}
-use Rattle.formulas.specs.Items.{owed, drawnPay}
+use Rattle.formulas.specs.Items.{owed, declarationCeiling, countedDeviation, isCharged, weighted, hoursCounted, NearExact, drawnPay}
 use Rattle.formulas.proofs.Laws.{drawn-most}
 use Rattle.settlement.specs.declared.Amounts.{Amounts}
 use Rattle.settlement.specs.declared.HourResult.{HourResult}
@@ -34,7 +34,7 @@ use Rattle.settlement.specs.Deviation.{deviationsOf}
 use Rattle.settlement.specs.Hour.{noAmounts, pastAmounts, amountAt, ratesOf, energyItem, availabilityItem, refundItem, testItem, drawnAt, amountsOf, plantOf, amountsAt, hourResult, hour-is}
 use Rattle.settlement.specs.Ranges.{HourRead, HourReady}
 use Rattle.settlement.proofs.Ready.{ownAt, hourOffer, plant-holds, hour-most, sheet-unit-in, rates-ready, drawn-ready, unit-ready}
-use Rattle.settlement.proofs.Sizes.{most, none-most, unit-most}
+use Rattle.settlement.proofs.Sizes.{most, none-most, unit-most, test-near}
 
 module _ (sheet : Sheet) (r : Record) (commitment : List HubKwh) where
   -- refusals 9 and 12 and the record's reader make an hour ready
@@ -94,11 +94,13 @@ module _ (sheet : Sheet) (r : Record) (commitment : List HubKwh) where
       let its = getD commitment k (record { 0 = 0 }) in
       let energy = getD (hourResult sheet r commitment .energy) k (record { 0 = 0 }) in
       let declared = netOf (u .declared) own in
+      let allowed = netOf (declarationCeiling (rates .season) (u .power)) own in
       let d = deviationsOf own u in
       getD (hourResult sheet r commitment .amounts) k pastAmounts .item
       ≡ energyItem (hourOffer sheet r k) its energy
       ∷ (availabilityItem rates declared its
-      ∷ (refundItem rates own declared u d ∷ (testItem rates u d energy ∷ (owed (drawnAt sheet r k) ∷ []))))
+      ∷ (refundItem rates declared (u .real) d allowed
+      ∷ (testItem rates (u .measured) (u .reading) (u .repair) (u .since) d energy ∷ (owed (drawnAt sheet r k) ∷ []))))
   unfolding amountsOf
   amount-is k m = ap (λ (a : Amounts). a .item) (member-amounts k m)
 
@@ -147,3 +149,18 @@ module _ (sheet : Sheet) (r : Record) (commitment : List HubKwh) where
             (getD (energies (r .net) (r .reverse) (plantOf sheet r commitment)) k (record { 0 = 0 })) (rates-ready sheet r (h .read))
             (unit-ready sheet r commitment h k m) (drawnAt sheet r k) (drawn-at-most k) i))
         by false m = subst of (sym (amounts-none k l m)) (none-most i)
+
+    -- where item 4 is charged, its size never exceeds the exact product, and falls short of it by under 130 Rial
+    pub charge-near-exact : (k : ℕ) → memberAt (sheet .units) k ≡ true
+        → let rates = ratesOf sheet (r .hour) in
+        let u = recordUnit r k in
+        let d = deviationsOf (ownAt sheet k) u in
+        isCharged (countedDeviation d (u .repair)) (u .measured) (u .reading) (getD (hourResult sheet r commitment .energy) k (record { 0 = 0 })) (rates .loss) ≡ true
+        → NearExact (weighted d (u .repair)) (rates .cpf) (rates .bar) (hoursCounted (u .since))
+        (natAbs (amountAt (hourResult sheet r commitment .amounts) k 3))
+    charge-near-exact k m t =
+        let e = ap (λ s. natAbs (getD s 3 (pos 0))) (amount-is k m) in
+        rw (e, energy-is)
+        (test-near (ratesOf sheet (r .hour)) (ownAt sheet k) (hourOffer sheet r k) (getD commitment k (record { 0 = 0 })) (recordUnit r k)
+        (getD (energies (r .net) (r .reverse) (plantOf sheet r commitment)) k (record { 0 = 0 })) (rates-ready sheet r (h .read))
+        (unit-ready sheet r commitment h k m) (rw energy-is at t))

@@ -16,15 +16,19 @@ use Rattle.offer.specs.declared.Offer.{Offer}
 use Rattle.offer.specs.Modified.{costTo}
 use Rattle.offer.proofs.Costs.{cost-le}
 use Rattle.record.specs.declared.UnitRecord.{UnitRecord}
-use Rattle.formulas.specs.Items.{owed, energyPay, refund, isCharged, countedDeviation, weighted, chargeOf}
+use Rattle.formulas.specs.Items.{owed, declarationCeiling, refund, isCharged, countedDeviation, weighted, hoursCounted, chargeOf, NearExact}
 use Rattle.formulas.proofs.Amounts.{owed-size}
 use Rattle.formulas.proofs.Laws.{energy-pay-most, availability-most, refund-most, weighted-most}
-use Rattle.formulas.proofs.Charge.{charge-most}
+use Rattle.formulas.proofs.Charge.{charge-most, charge-near}
 use Rattle.settlement.specs.declared.Rates.{Rates}
 use Rattle.settlement.specs.Deviation.{deviationsOf}
-use Rattle.settlement.specs.Hour.{noAmounts, allowedNet, energyItem, availabilityItem, refundItem, testItem, amountsOf}
+use Rattle.settlement.specs.Hour.{noAmounts, energyItem, availabilityItem, refundItem, testItem, amountsOf}
 use Rattle.settlement.specs.Ranges.{RatesReady, UnitReady}
 use Rattle.settlement.proofs.Weights.{split-ready}
+
+-- net(A)
+abbrev allowedNet : Rates → ℕ → UnitRecord → NetKwh
+allowedNet rates own u = netOf (declarationCeiling (rates .season) (u .power)) own
 
 -- 10^11
 abbrev pub most : ℕ
@@ -62,7 +66,7 @@ module _ (rates : Rates) (own : ℕ) (offer : Offer) (commitment : HubKwh) (u : 
   availability-item-most =
       availability-most (netOf (u .declared) own) (rates .cpf) (rates .bar) declared-most (rated .cpf) (rated .bar) (gateOf commitment (rates .loss))
 
-  refund-item-most : natAbs (refundItem rates own (netOf (u .declared) own) u (deviationsOf own u)) ≤ 10000000000
+  refund-item-most : natAbs (refundItem rates (netOf (u .declared) own) (u .real) (deviationsOf own u) (allowedNet rates own u)) ≤ 10000000000
   unfolding refundItem
   refund-item-most =
       omega (
@@ -71,28 +75,37 @@ module _ (rates : Rates) (own : ℕ) (offer : Offer) (commitment : HubKwh) (u : 
         refund-most (netOf (u .declared) own) (rates .cpf) (rates .bar) declared-most (rated .cpf) (rated .bar) (u .real) (deviationsOf own u) (allowedNet rates own u),
       )
 
-  test-item-most : natAbs (testItem rates u (deviationsOf own u) energy) ≤ 41000000000
+  -- item 4: W is at most 10^7
+  w-range : (weighted (deviationsOf own u) (u .repair) ≤ 10000000) × (rates .cpf ≤ 10000) × (rates .bar ≤ 1000000)
+  w-range =
+      let w = weighted-most (deviationsOf own u) 1000000 (split-ready own u (h .in-range)) (u .repair) in (omega arith, rated .cpf, rated .bar)
+
+  test-item-most : natAbs (testItem rates (u .measured) (u .reading) (u .repair) (u .since) (deviationsOf own u) energy) ≤ 41000000000
   unfolding testItem
-  test-item-most =
-      by (isCharged (countedDeviation (deviationsOf own u) (u .repair)) (u .measured) (u .reading) energy (rates .loss))
+  test-item-most = by (isCharged (countedDeviation (deviationsOf own u) (u .repair)) (u .measured) (u .reading) energy (rates .loss))
     where
       charge : ℕ
       charge = chargeOf (weighted (deviationsOf own u) (u .repair)) (u .since) (rates .cpf) (rates .bar)
 
       by : (t : Bool) → natAbs (owed (cond t charge 0)) ≤ 41000000000
       by true =
-          let w = weighted-most (deviationsOf own u) 1000000 (split-ready own u (h .in-range)) (u .repair) in
-          omega (
-            arith,
-            owed-size charge,
-            charge-most (weighted (deviationsOf own u) (u .repair)) (rates .cpf) (rates .bar) (omega arith, rated .cpf, rated .bar) (u .since),
-          )
+          omega (arith, owed-size charge, charge-most (weighted (deviationsOf own u) (u .repair)) (rates .cpf) (rates .bar) w-range (u .since))
       by false = omega arith
+
+  -- where charged, its size never exceeds the exact product, and falls short of it by under 130 Rial
+  pub test-near : isCharged (countedDeviation (deviationsOf own u) (u .repair)) (u .measured) (u .reading) energy (rates .loss) ≡ true
+      → NearExact (weighted (deviationsOf own u) (u .repair)) (rates .cpf) (rates .bar) (hoursCounted (u .since))
+      (natAbs (testItem rates (u .measured) (u .reading) (u .repair) (u .since) (deviationsOf own u) energy))
+  unfolding testItem
+  test-near t =
+      let w = weighted (deviationsOf own u) (u .repair) in
+      rw (t, owed-size (chargeOf w (u .since) (rates .cpf) (rates .bar))) (charge-near w (rates .cpf) (rates .bar) w-range (u .since))
 
   pub unit-most : (drawn : ℕ) → drawn ≤ 80000000000 → (i : ℕ) → natAbs (getD (amountsOf rates own offer commitment u energy drawn .item) i (pos 0)) ≤ most
   unfolding amountsOf
   unit-most drawn l =
       each-most (energyItem offer commitment energy) (availabilityItem rates (netOf (u .declared) own) commitment)
-      (refundItem rates own (netOf (u .declared) own) u (deviationsOf own u)) (testItem rates u (deviationsOf own u) energy) (owed drawn)
+      (refundItem rates (netOf (u .declared) own) (u .real) (deviationsOf own u) (allowedNet rates own u))
+      (testItem rates (u .measured) (u .reading) (u .repair) (u .since) (deviationsOf own u) energy) (owed drawn)
       (omega (arith, energy-item-most)) (omega (arith, availability-item-most)) (omega (arith, refund-item-most)) (omega (arith, test-item-most))
       (omega (arith, owed-size drawn))

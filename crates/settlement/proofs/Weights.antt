@@ -10,7 +10,7 @@ use native.Mathlib.Omega.{arith}
 use lib.Dec.{eqb}
 use lib.ListN.{length, getD, replicate, getD-replicate}
 use Rattle.finite.specs.Finite.{sum, tabulate}
-use Rattle.finite.proofs.Sums.{sum-le, sum-most, sum-same, sum-zero}
+use Rattle.finite.proofs.Sums.{sum-most, sum-zero, sum-has}
 use Rattle.finite.proofs.Tables.{length-tabulate, getD-tabulate}
 use Rattle.energy.specs.declared.NetKwh.{NetKwh}
 use Rattle.energy.specs.Energy.{netOf}
@@ -85,6 +85,14 @@ module _ (own : ℕ) (u : UnitRecord) (h : UnitInRange u) where
             sum-zero kinds (λ i. getD (shares w (u .deviation .0)) i 0)
                 (λ i l. ap (λ s. getD s i 0) (shares-zero w (u .deviation .0) (omega arith)) ∙ getD-replicate (length w) i 0 0 (omega (arith, proportions-length))),
           )
+
+  -- to all of it where some sum is over 0, as refusal 33 sees to; a deviation of 0 has parts of 0
+  pub split-all : 0 < sumOf (proportions own u) → sum kinds (λ i. getD (deviationsOf own u .kwh) i 0) ≡ u .deviation .0
+  unfolding deviationsOf
+  split-all some = rw proportions-length at (shares-total (proportions own u) (u .deviation .0) some)
+
+  pub split-none : u .deviation .0 ≡ 0 → (i : ℕ) → i < kinds → getD (deviationsOf own u .kwh) i 0 ≡ 0
+  split-none e i l = omega (arith, sum-has kinds i (λ i. getD (deviationsOf own u .kwh) i 0) l, split-most)
 
   pub split-ready : SplitReady (deviationsOf own u)
   split-ready = omega (arith, split-most, h .deviation)

@@ -1,6 +1,6 @@
 -- An hour's energies and amounts (01, Allocation; Five items). Place k is that of unit k + 1; outside the plant all is 0.
 use mathlib.Core.Path.{_≡_, refl}
-use mathlib.Core.Bool.{cond}
+use mathlib.Core.Bool.{Bool, cond}
 use mathlib.Core.List.{List, [], _∷_}
 use Prim.Native.Nat.{ℕ, _-_}
 use lib.IntN.{ℤ, pos}
@@ -55,37 +55,35 @@ unfoldable pub availabilityItem : Rates → NetKwh → HubKwh → ℤ
 availabilityItem rates declared commitment =
     paid (availability declared (gateOf commitment (rates .loss)) (rates .cpf) (rates .bar))
 
--- net(A)
-abbrev pub allowedNet : Rates → ℕ → UnitRecord → NetKwh
-allowedNet rates own u = netOf (declarationCeiling (rates .season) (u .power)) own
+-- 3. Refund, by D, `real`, the deviation by kinds and net(A)
+unfoldable pub refundItem : Rates → NetKwh → NetKwh → Deviations → NetKwh → ℤ
+refundItem rates declared real d allowed = owed (refund declared real d allowed (rates .cpf) (rates .bar))
 
--- 3. Refund; `real` is net already
-unfoldable pub refundItem : Rates → ℕ → NetKwh → UnitRecord → Deviations → ℤ
-refundItem rates own declared u d = owed (refund declared (u .real) d (allowedNet rates own u) (rates .cpf) (rates .bar))
-
--- 4. Test; `reading` is net already
-unfoldable pub testItem : Rates → UnitRecord → Deviations → HubGrains → ℤ
-testItem rates u d energy =
+-- 4. Test, by the unit's own meter, `repair`, `since`, the deviation by kinds and the unit's grains
+unfoldable pub testItem : Rates → Bool → NetKwh → ℕ → ℕ → Deviations → HubGrains → ℤ
+testItem rates measured reading repair since d energy =
     owed
-    (cond (isCharged (countedDeviation d (u .repair)) (u .measured) (u .reading) energy (rates .loss))
-    (chargeOf (weighted d (u .repair)) (u .since) (rates .cpf) (rates .bar))
+    (cond (isCharged (countedDeviation d repair) measured reading energy (rates .loss))
+    (chargeOf (weighted d repair) since (rates .cpf) (rates .bar))
     0)
 
 -- 5. "Drawn energy, on the lowest-numbered unit only": what is due of the unit at place k
 unfoldable pub drawnAt : Sheet → Record → ℕ → ℕ
 drawnAt sheet r k = cond (isLowest (sheet .units) k) (drawnPay (r .reverse) (r .net) (sheet .ceiling) (sheet .loss)) 0
 
--- a unit's items, in their order; "D is net(declared)", and own is ρ
+-- a unit's items, in their order. "D is net(declared)", and own is ρ: it is taken off `declared`, A and, in the split, the spans'
+-- capabilities, which are gross; `real`, `test`, `deviation` and `reading` are net
 unfoldable pub amountsOf : Rates → ℕ → Offer → HubKwh → UnitRecord → HubGrains → ℕ → Amounts
 amountsOf rates own offer commitment u energy drawn =
     let declared = netOf (u .declared) own in
+    let allowed = netOf (declarationCeiling (rates .season) (u .power)) own in
     let d = deviationsOf own u in
     record {
       item =
           energyItem offer commitment energy
           ∷ availabilityItem rates declared commitment
-          ∷ refundItem rates own declared u d
-          ∷ testItem rates u d energy
+          ∷ refundItem rates declared (u .real) d allowed
+          ∷ testItem rates (u .measured) (u .reading) (u .repair) (u .since) d energy
           ∷ owed drawn
           ∷ [];
     }

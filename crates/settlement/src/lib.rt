@@ -132,30 +132,36 @@ fn availability_item(rates: Rates, declared: NetKwh, commitment: HubKwh) -> i64
     formulas::paid(formulas::availability_pay(declared, gate, rates.cpf, rates.bar))
 }
 
-// Item 3, by the net declared capability and the deviation by kinds.
-fn refund_item(rates: Rates, own: u64, declared: NetKwh, u: UnitRecord, d: Deviations) -> i64
-    requires { ⌜ RatesReady rates × (own ≤ 2000) × (declared .0 ≤ 1000000) × UnitInRange u × SplitReady d ⌝ }
-    ensures { λ r. ⌜ r ≡ refundItem rates own declared u d ⌝ }
+// Item 3, by the net declared capability, `real`, the deviation by kinds and the net declaration ceiling.
+fn refund_item(rates: Rates, declared: NetKwh, real: NetKwh, d: Deviations, allowed: NetKwh) -> i64
+    requires { ⌜ RatesReady rates × (declared .0 ≤ 1000000) ⌝ }
+    ensures { λ r. ⌜ r ≡ refundItem rates declared real d allowed ⌝ }
 {
-    let ceiling = formulas::declaration_ceiling(rates.season, u.power);
-    let allowed = energy::net_of(ceiling, own);
-    formulas::owed(formulas::refund(declared, u.real, d, allowed, rates.cpf, rates.bar))
+    formulas::owed(formulas::refund(declared, real, d, allowed, rates.cpf, rates.bar))
 }
 
-// Item 4, by the deviation by kinds and the unit's energy.
-fn test_item(rates: Rates, u: UnitRecord, d: Deviations, energy: HubGrains) -> i64
-    requires { ⌜ RatesReady rates × UnitInRange u × SplitReady d ⌝ }
-    ensures { λ r. ⌜ r ≡ testItem rates u d energy ⌝ }
+// Item 4, by the unit's own meter, `repair`, `since`, the deviation by kinds and the unit's energy.
+fn test_item(
+    rates: Rates,
+    measured: bool,
+    reading: NetKwh,
+    repair: u64,
+    since: u64,
+    d: Deviations,
+    energy: HubGrains,
+) -> i64
+    requires { ⌜ RatesReady rates × SplitReady d ⌝ }
+    ensures { λ r. ⌜ r ≡ testItem rates measured reading repair since d energy ⌝ }
 {
-    let q = formulas::counted_deviation(d, u.repair);
-    if formulas::is_charged(q, u.measured, u.reading, energy, rates.loss) {
-        let w = formulas::weighted(d, u.repair);
-        return formulas::owed(formulas::charge_of(w, u.since, rates.cpf, rates.bar));
+    let q = formulas::counted_deviation(d, repair);
+    if formulas::is_charged(q, measured, reading, energy, rates.loss) {
+        let w = formulas::weighted(d, repair);
+        return formulas::owed(formulas::charge_of(w, since, rates.cpf, rates.bar));
     }
     0
 }
 
-// A unit's items.
+// A unit's items. Own use is taken off `declared` and the declaration ceiling; the other figures are net.
 fn unit_amounts(
     rates: Rates,
     own: u64,
@@ -169,11 +175,13 @@ fn unit_amounts(
     ensures { λ r. ⌜ r ≡ amountsOf rates own offer commitment u energy drawn ⌝ }
 {
     let declared = energy::net_of(u.declared, own);
+    let ceiling = formulas::declaration_ceiling(rates.season, u.power);
+    let allowed = energy::net_of(ceiling, own);
     let d = split(own, u);
     let paid = energy_item(offer, commitment, energy);
     let available = availability_item(rates, declared, commitment);
-    let refunded = refund_item(rates, own, declared, u, d);
-    let tested = test_item(rates, u, d, energy);
+    let refunded = refund_item(rates, declared, u.real, d, allowed);
+    let tested = test_item(rates, u.measured, u.reading, u.repair, u.since, d, energy);
     let owed = formulas::owed(drawn);
     Amounts {
         item: [paid, available, refunded, tested, owed],

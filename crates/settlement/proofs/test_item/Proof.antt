@@ -12,48 +12,47 @@ use Rattle.settlement.specs.Hour.{testItem}
 use Rattle.settlement.proofs.test_item.Statement.{statement}
 use Rattle.settlement.proofs.test_item.Tie as tie
 
--- the magnitude, where charged
-magnitude : (c : tie.After-charge-of) →
+-- the charge and the test are the definition's
+charge : (c : tie.After-charge-of) →
     let a = c .before .before .before .before .before .args in
-    c .charge-of .result ≡ chargeOf (weighted (a .d) (a .u .repair)) (a .u .since) (a .rates .cpf) (a .rates .bar)
-magnitude c =
+    c .charge-of .result ≡ chargeOf (weighted (a .d) (a .repair)) (a .since) (a .rates .cpf) (a .rates .bar)
+charge c =
     let a = c .before .before .before .before .before .args in
-    c .charge-of .ensures .0 ∙ ap (λ (w : ℕ). chargeOf w (a .u .since) (a .rates .cpf) (a .rates .bar)) (c .before .weighted .ensures)
+    c .charge-of .ensures .0 ∙ ap (λ (w : ℕ). chargeOf w (a .since) (a .rates .cpf) (a .rates .bar)) (c .before .weighted .ensures)
 
--- the test is the definition's
 tested : (c : tie.After-is-charged) →
     let a = c .before .before .args in
-    isCharged (countedDeviation (a .d) (a .u .repair)) (a .u .measured) (a .u .reading) (a .energy) (a .rates .loss) ≡ c .is-charged .result
+    isCharged (countedDeviation (a .d) (a .repair)) (a .measured) (a .reading) (a .energy) (a .rates .loss) ≡ c .is-charged .result
 tested c =
     let a = c .before .before .args in
-    sym (c .is-charged .ensures ∙ ap (λ (q : NetKwh). isCharged q (a .u .measured) (a .u .reading) (a .energy) (a .rates .loss)) (c .before .counted-deviation .ensures))
+    sym (c .is-charged .ensures ∙ ap (λ (q : NetKwh). isCharged q (a .measured) (a .reading) (a .energy) (a .rates .loss)) (c .before .counted-deviation .ensures))
 
 counted-deviation-requires : tie.Need-counted-deviation-requires
-counted-deviation-requires c κs = λ i l. omega (arith, deviation-most (c .args .d) 1000000 (c .pre .2) i l)
+counted-deviation-requires c κs = λ i l. omega (arith, deviation-most (c .args .d) 1000000 (c .pre .1) i l)
 
 is-charged-requires : tie.Need-is-charged-requires
 is-charged-requires c κs =
     let start = c .before in
-    (omega (arith, counted-most (start .args .d) 1000000 (start .pre .2) (start .args .u .repair), ap (λ (n : NetKwh). n .0) (c .counted-deviation .ensures)), omega (arith, start .pre .0 .loss))
+    (omega (arith, counted-most (start .args .d) 1000000 (start .pre .1) (start .args .repair), ap (λ (n : NetKwh). n .0) (c .counted-deviation .ensures)), omega (arith, start .pre .0 .loss))
 
 weighted-requires : tie.Need-weighted-requires
-weighted-requires c κs = λ i l. omega (arith, deviation-most (c .before .before .before .args .d) 1000000 (c .before .before .before .pre .2) i l)
+weighted-requires c κs = λ i l. omega (arith, deviation-most (c .before .before .before .args .d) 1000000 (c .before .before .before .pre .1) i l)
 
 charge-of-requires : tie.Need-charge-of-requires
 charge-of-requires c κs =
     let start = c .before .before .before .before in
-    (omega (arith, weighted-most (start .args .d) 1000000 (start .pre .2) (start .args .u .repair), c .weighted .ensures), start .pre .0 .cpf, start .pre .0 .bar)
+    (omega (arith, weighted-most (start .args .d) 1000000 (start .pre .1) (start .args .repair), c .weighted .ensures), start .pre .0 .cpf, start .pre .0 .bar)
 
 owed-requires : tie.Need-owed-requires
 owed-requires c κs =
     let start = c .before .before .before .before .before in
     let a = start .args in
-    let w = weighted-most (a .d) 1000000 (start .pre .2) (a .u .repair) in
-    omega (arith, magnitude c, charge-most (weighted (a .d) (a .u .repair)) (a .rates .cpf) (a .rates .bar) (omega arith, start .pre .0 .cpf, start .pre .0 .bar) (a .u .since))
+    let w = weighted-most (a .d) 1000000 (start .pre .1) (a .repair) in
+    omega (arith, charge c, charge-most (weighted (a .d) (a .repair)) (a .rates .cpf) (a .rates .bar) (omega arith, start .pre .0 .cpf, start .pre .0 .bar) (a .since))
 
 returns : tie.Need-returns
 unfolding testItem
-returns c = rw (tested (c .before .before .before .before) ∙ c .before .before .before .if1 .taken) (back _ (c .owed .ok) ∙ (c .owed .ensures ∙ ap owed (magnitude (c .before))))
+returns c = rw (tested (c .before .before .before .before) ∙ c .before .before .before .if1 .taken) (back _ (c .owed .ok) ∙ (c .owed .ensures ∙ ap owed (charge (c .before))))
 
 returns-2 : tie.Need-returns-2
 unfolding testItem
