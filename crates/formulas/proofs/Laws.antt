@@ -15,7 +15,7 @@ use Rattle.energy.specs.declared.GrossKwh.{GrossKwh}
 use Rattle.energy.specs.declared.NetKwh.{NetKwh}
 use Rattle.energy.proofs.Laws.{pay-most}
 use Rattle.formulas.specs.declared.Deviations.{Deviations}
-use Rattle.formulas.specs.Items.{kinds, deviationOf, Bounded, energyPay, availability, declarationCeiling, refundKwh, refund, countedDeviation, weighted, drawnPay}
+use Rattle.formulas.specs.Items.{kinds, deviationOf, energyPay, availability, declarationCeiling, refundKwh, refund, countedDeviation, weighted, drawnPay}
 
 -- a difference is over 0 where its first number is the larger
 pub over-test : (a b : ℕ) → ltb 0 (a - b) ≡ ltb b a

@@ -5,10 +5,9 @@ use mathlib.Core.Path.{_≡_, refl, sym, _∙_, ap, subst}
 use mathlib.Core.Bool.{Bool, true, false, cond}
 use mathlib.Core.List.{List, [], _∷_}
 use Prim.Native.Nat.{ℕ, _-_, _≤_, _<_}
-use native.Mathlib.Decide.{decLt}
 use native.Mathlib.Omega.{arith}
-use lib.IntN.{ℤ, pos, natAbs}
-use lib.ListN.{length, getD, getD-replicate}
+use lib.IntN.{pos, natAbs}
+use lib.ListN.{length, getD}
 use Rattle.finite.specs.Finite.{sum, tabulate}
 use Rattle.finite.proofs.Tables.{length-tabulate, getD-tabulate}
 use Rattle.energy.specs.declared.HubKwh.{HubKwh}

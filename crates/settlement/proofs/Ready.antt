@@ -1,7 +1,7 @@
 -- What the sheet's refusal 9, the record's reader and the commitments give of an hour: the plant keeps its ranges, and so does what each
 -- unit's formulas use. What was taken out of the sheet by places is what stands there.
 -- Assumes nothing.
-use mathlib.Core.Path.{_≡_, refl, sym, _∙_, ap, subst}
+use mathlib.Core.Path.{_≡_, ap}
 use mathlib.Core.Bool.{true, cond}
 use mathlib.Core.List.{List}
 use Prim.Native.Nat.{ℕ, _-_, _≤_, _<_}
@@ -13,7 +13,7 @@ use Rattle.energy.specs.declared.GrossKwh.{GrossKwh}
 use Rattle.energy.specs.declared.NetKwh.{NetKwh}
 use Rattle.energy.specs.declared.HubKwh.{HubKwh}
 use Rattle.energy.specs.declared.HubGrains.{HubGrains}
-use Rattle.units.specs.Units.{memberAt, isLowest}
+use Rattle.units.specs.Units.{memberAt}
 use Rattle.units.proofs.Laws.{place-lt}
 use Rattle.offer.specs.declared.Offer.{Offer}
 use Rattle.offer.specs.Offer.{pastOffer, offerHolds}

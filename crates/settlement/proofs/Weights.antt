@@ -1,21 +1,21 @@
 -- The kinds' sums and the split by them. A span adds at most 60 × 10^6 to one kind, and a unit has at most six spans, so every product that
 -- the split makes is a machine number; the parts of the split add up to the deviation, or to 0 where all sums are 0.
 -- Assumes nothing.
-use mathlib.Core.Path.{_≡_, refl, sym, _∙_, ap, subst}
+use mathlib.Core.Path.{_≡_, _∙_, ap}
 use mathlib.Core.Bool.{Bool, true, false, cond}
-use Prim.Native.Nat.{ℕ, _+_, _*_, _-_, _^_, _≤_, _<_}
+use Prim.Native.Nat.{ℕ, _+_, _-_, _^_, _≤_, _<_}
 use native.Mathlib.Nat.{mul-le-mul}
 use native.Mathlib.Decide.{decLt}
 use native.Mathlib.Omega.{arith}
 use lib.Dec.{eqb}
-use lib.ListN.{length, getD, replicate, getD-replicate}
-use Rattle.finite.specs.Finite.{sum, tabulate}
+use lib.ListN.{length, getD, getD-replicate}
+use Rattle.finite.specs.Finite.{sum}
 use Rattle.finite.proofs.Sums.{sum-most, sum-zero, sum-has}
 use Rattle.finite.proofs.Tables.{length-tabulate, getD-tabulate}
 use Rattle.energy.specs.declared.NetKwh.{NetKwh}
 use Rattle.energy.specs.Energy.{netOf}
 use Rattle.apportion.specs.Shares.{sumOf, shares, Fits}
-use Rattle.apportion.proofs.Laws.{shares-zero, shares-total, shares-length}
+use Rattle.apportion.proofs.Laws.{shares-zero, shares-total}
 use Rattle.record.specs.declared.Span.{Span}
 use Rattle.record.specs.declared.UnitRecord.{UnitRecord}
 use Rattle.record.specs.Spans.{countedKind, spanAt, spanCount}

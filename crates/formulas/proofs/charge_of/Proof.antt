@@ -1,6 +1,6 @@
 -- The product of b and t(n) is below 2^64; the charge is the definition's, and that is near the exact product.
 -- Assumes nothing.
-use mathlib.Core.Path.{_≡_, refl, _∙_, ap, subst, sym}
+use mathlib.Core.Path.{_≡_, _∙_, ap, subst, sym}
 use Prim.Native.Nat.{ℕ, _*_, _/_}
 use native.Mathlib.Omega.{arith}
 use Rattle.formulas.specs.Items.{chargeOf, baseCharge, growth, hoursCounted, NearExact}

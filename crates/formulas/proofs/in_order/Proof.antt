@@ -1,6 +1,5 @@
 -- The returns are the cases of the definition.
 -- Assumes nothing.
-use native.Mathlib.Omega.{arith}
 use borrow.Author.Tests.{lt-ltb, le-ltb, eq-eqb, ne-eqb}
 use Rattle.formulas.proofs.in_order.Statement.{statement}
 use Rattle.formulas.proofs.in_order.Tie as tie

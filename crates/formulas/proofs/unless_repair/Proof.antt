@@ -1,6 +1,6 @@
 -- 1 - repair is 1 at 0, and 0 at any other number.
 -- Assumes nothing.
-use Prim.Native.Nat.{_-_, _*_}
+use Prim.Native.Nat.{_-_}
 use mathlib.Core.Path.{_≡_}
 use native.Mathlib.Nat.{one-mul, zero-mul}
 use native.Mathlib.Omega.{arith}

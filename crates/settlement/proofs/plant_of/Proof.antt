@@ -1,6 +1,5 @@
 -- The hour is one of 24; each field is the definition's.
 -- Assumes nothing.
-use mathlib.Core.Path.{_≡_}
 use Rattle.settlement.specs.Hour.{plantOf}
 use borrow.Author.Needs.{needs}
 use Rattle.settlement.proofs.plant_of.Statement.{statement}

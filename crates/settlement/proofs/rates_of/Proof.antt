@@ -1,6 +1,5 @@
 -- The hour is one of 24; the result is the definition.
 -- Assumes nothing.
-use mathlib.Core.Path.{_≡_}
 use Prim.Native.Nat.{_-_}
 use lib.ListN.{getD}
 use Rattle.settlement.specs.Hour.{ratesOf}

@@ -1,20 +1,15 @@
 -- What is taken out of the sheet and the record is the definition's, place by place; the ranges hold for every record read under a sheet
 -- that passes refusal 9.
 -- Assumes nothing.
-use mathlib.Core.Path.{_≡_, sym, _∙_, ap, subst}
-use mathlib.Core.List.{List}
-use Prim.Native.Nat.{ℕ, _≤_}
+use mathlib.Core.Path.{_≡_, sym, _∙_, ap}
 use native.Mathlib.Omega.{arith}
 use Rattle.finite.specs.Finite.{tabulate}
 use Rattle.finite.proofs.Tables.{tabulate-same}
-use Rattle.energy.specs.declared.HubGrains.{HubGrains}
-use Rattle.allocation.specs.declared.Plant.{Plant}
-use Rattle.allocation.specs.Allocation.{energies, PlantHolds}
-use Rattle.formulas.specs.Items.{drawnPay}
+use Rattle.allocation.specs.Allocation.{energies}
 use Rattle.formulas.proofs.Laws.{drawn-most}
-use Rattle.settlement.specs.Hour.{ratesOf, plantOf, amountsAt, hour-is}
-use Rattle.settlement.specs.Ranges.{placeAmounts, UnitsReady}
-use Rattle.settlement.proofs.Ready.{ownAt, hourOffer, place-same, rates-ready, drawn-ready, net-most, plant-holds, units-ready}
+use Rattle.settlement.specs.Hour.{plantOf, hour-is}
+use Rattle.settlement.specs.Ranges.{placeAmounts}
+use Rattle.settlement.proofs.Ready.{place-same, rates-ready, drawn-ready, net-most, plant-holds, units-ready}
 use borrow.Author.Needs.{needs}
 use Rattle.settlement.proofs.settle_hour.Statement.{statement}
 use Rattle.settlement.proofs.settle_hour.Tie as tie

@@ -1,11 +1,10 @@
 -- The shares of the deviation by the kinds' sums.
 -- Assumes nothing.
-use mathlib.Core.Path.{_≡_, sym, _∙_, ap}
+use mathlib.Core.Path.{sym, _∙_, ap}
 use Prim.Native.Nat.{ℕ}
 use mathlib.Core.List.{List}
 use lib.ListN.{length}
 use Rattle.apportion.specs.Shares.{shares}
-use Rattle.formulas.specs.declared.Deviations.{Deviations}
 use Rattle.settlement.specs.Deviation.{proportions, deviationsOf}
 use Rattle.settlement.proofs.Weights.{proportions-length, proportions-fit}
 use borrow.Author.Needs.{needs}

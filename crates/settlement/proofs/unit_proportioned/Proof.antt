@@ -1,7 +1,7 @@
 -- The two returns are the definition's two cases.
 -- Assumes nothing.
-use mathlib.Core.Path.{_≡_, ap}
-use mathlib.Core.Bool.{Bool, not}
+use mathlib.Core.Path.{ap}
+use mathlib.Core.Bool.{not}
 use Prim.Native.Nat.{_<_, _≤_}
 use native.Mathlib.Omega.{arith}
 use borrow.Author.Tests.{lt-ltb, le-ltb}
