@@ -1,0 +1,42 @@
+-- Each place tested is the row's place in the list; the last is the one left.
+use Prim.Native.Nat.{ℕ}
+use mathlib.Core.Path.{_≡_, ap, sym, _∙_}
+use mathlib.Core.List.{List}
+use native.Mathlib.Omega.{arith}
+use lib.ListN.{getD}
+use Rattle.record.specs.Rows.{headRows, endRow}
+use borrow.Author.Needs.{needs}
+use Rattle.record.proofs.head_row.Statement.{statement}
+use Rattle.record.proofs.head_row.Tie as tie
+
+number-row-requires : tie.Need-number-row-requires
+number-row-requires c κs = search needs
+
+returns : tie.Need-returns
+unfolding headRows
+returns c = c .number-row .ensures ∙ ap (λ (n : ℕ). getD headRows n endRow) (sym (c .before .before .before .if1 .taken))
+
+blank-row-requires : tie.Need-blank-row-requires
+blank-row-requires c κs = search needs
+
+returns-2 : tie.Need-returns-2
+unfolding headRows
+returns-2 c = c .blank-row .ensures ∙ ap (λ (n : ℕ). getD headRows n endRow) (sym (c .before .before .before .if2 .taken))
+
+blank-row-requires-2 : tie.Need-blank-row-requires-2
+blank-row-requires-2 c κs = search needs
+
+returns-3 : tie.Need-returns-3
+unfolding headRows
+returns-3 c = let e : 2 ≡ c .before .before .before .before .before .args .k = omega (arith, c .before .before .before .if2 .left, c .before .before .before .before .if1 .left, c .before .before .before .before .before .pre) in c .blank-row2 .ensures ∙ ap (λ (n : ℕ). getD headRows n endRow) e
+
+pub head-row-spec : {M : Type 1} → statement M
+head-row-spec =
+    tie.close
+    (tie.spec
+    number-row-requires
+    returns
+    blank-row-requires
+    returns-2
+    blank-row-requires-2
+    returns-3)

@@ -1,0 +1,96 @@
+-- After i turns the cursor and the cells show i lines; the row of the next is the one due.
+use Prim.Native.Nat.{ℕ, _+_, _*_, _-_, _≤_}
+use mathlib.Core.Path.{_≡_, refl, ap, sym, _∙_, subst}
+use native.Mathlib.Omega.{arith}
+use lib.ListN.{length}
+use Rattle.text.specs.declared.Row.{Row}
+use Rattle.lines.specs.declared.Cursor.{Cursor}
+use Rattle.lines.specs.Lines.{begin, readLine, readBy}
+use Rattle.lines.specs.Cells.{Shows}
+use Rattle.lines.proofs.Due.{by-next}
+use Rattle.record.specs.Rows.{rowAt, dueRow, readLines}
+use Rattle.record.proofs.Facts.{nothing-read}
+use borrow.Author.Needs.{needs}
+use Rattle.record.proofs.read_lines.Statement.{statement}
+use Rattle.record.proofs.read_lines.Tie as tie
+
+abbrev Inv-loop : tie.InvT-loop
+Inv-loop text n cells₀ due c₀ i₀ cells c i =
+    (i ≤ due)
+    × (c .lines ≤ i)
+    × (length cells ≡ length cells₀)
+    × Shows cells c (readBy text (dueRow n) i begin)
+
+abbrev μ-loop : tie.MeasureT-loop
+μ-loop text n cells₀ due c₀ i₀ cells c i = due - i
+
+mul-due : tie.Need-mul-due Inv-loop μ-loop
+mul-due c = search needs
+
+add-due : tie.Need-add-due Inv-loop μ-loop
+add-due c = search needs
+
+add-due-2 : tie.Need-add-due-2 Inv-loop μ-loop
+add-due-2 c = search needs
+
+start-requires : tie.Need-start-requires Inv-loop μ-loop
+start-requires c κs = search needs
+
+loop-holds : tie.Need-loop-holds Inv-loop μ-loop
+unfolding readBy
+loop-holds c = (omega arith, omega (arith, ap (λ (x : Cursor). x .lines) (c .start .ensures)), refl, nothing-read (c .before .before .before .args .cells .now) (c .start .result) (c .start .ensures))
+
+row-at-requires : tie.Need-row-at-requires Inv-loop μ-loop
+row-at-requires c κs = search needs
+
+read-line-requires : tie.Need-read-line-requires Inv-loop μ-loop
+read-line-requires c κs = omega (arith, c .before .before .before .loop .inv, c .before .before .loop-test .taken, c .before .before .before .before .before .before .before .pre)
+
+add-i : tie.Need-add-i Inv-loop μ-loop
+add-i c = search needs
+
+loop-less : tie.Need-loop-less Inv-loop μ-loop
+loop-less c = search needs
+
+loop-again : tie.Need-loop-again Inv-loop μ-loop
+loop-again c =
+    let l = c .before .before .before .before .before .before .loop in
+    let g = c .before .before .before .before .before .before .before .before .before .before .args in
+    let r = c .before .before .read-line in
+    let t = readBy (g .text .now) (dueRow (g .n)) (l .i) begin in
+    let row : c .before .before .before .before .row-at .result ≡ dueRow (g .n) (t .lines) = c .before .before .before .before .row-at .ensures ∙ ap (rowAt (g .n)) (l .inv .3 .lines-is) in (
+      omega (arith, l .inv .0, c .before .before .before .before .before .loop-test .taken),
+      omega (arith, l .inv .1, r .ensures .1),
+      r .kept .1 .1 .1 .0 ∙ l .inv .2,
+      rw by-next (subst (λ (x : Row). Shows (r .last .1 .1 .1 .0) (r .result) (readLine (g .text .now) x t)) row (r .ensures .0 t (l .inv .3))),
+    )
+
+same-length : tie.Need-same-length Inv-loop μ-loop
+same-length c = search needs
+
+returns : tie.Need-returns Inv-loop μ-loop
+unfolding readLines
+returns c =
+    let l = c .before .loop in
+    let g = c .before .before .before .before .before .args in
+    let all : l .i ≡ 3 + 9 * g .n + 1 = omega (arith, l .inv .0, c .loop-test .left) in
+    (subst (λ (n : ℕ). Shows (l .cells) (l .c) (readBy (g .text .now) (dueRow (g .n)) n begin)) all (l .inv .3), omega (arith, l .inv .1, c .before .before .before .before .before .pre))
+
+pub read-lines-spec : {M : Type 1} → statement M
+read-lines-spec =
+    tie.close
+    (tie.spec
+    Inv-loop
+    μ-loop
+    mul-due
+    add-due
+    add-due-2
+    start-requires
+    loop-holds
+    row-at-requires
+    read-line-requires
+    add-i
+    loop-less
+    loop-again
+    same-length
+    returns)
