@@ -1,8 +1,8 @@
 -- A unit's values, each that of its line, make the unit of the block.
 -- Assumes nothing.
-use mathlib.Core.Path.{_≡_, refl}
+use mathlib.Core.Path.{_≡_}
 use mathlib.Core.List.{List}
-use Prim.Native.Nat.{ℕ, _+_, _*_}
+use Prim.Native.Nat.{ℕ, _+_}
 use lib.Dec.{ltb}
 use Rattle.finite.specs.Finite.{tabulate}
 use Rattle.energy.specs.declared.GrossKwh.{GrossKwh}

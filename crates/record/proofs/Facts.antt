@@ -1,17 +1,17 @@
 -- What the lines of a good record are: as many as the plant's units ask for, each by the row of its place.
 -- Assumes nothing.
-use mathlib.Core.Path.{_≡_, refl, ap, sym, _∙_, subst}
-use mathlib.Core.List.{List, []}
+use mathlib.Core.Path.{_≡_, refl, ap, subst}
+use mathlib.Core.List.{List}
 use Prim.Native.Nat.{ℕ, _+_, _*_, _-_, _%_, _≤_, _<_}
 use native.Mathlib.Nat.{not-suc-le-zero}
 use native.Mathlib.Omega.{arith}
 use borrow.Author.Tests.{lt-ltb, le-ltb}
-use lib.ListN.{length, getD, take}
+use lib.ListN.{length, getD}
 use lib.Seq.{length-take-le}
 use Rattle.text.specs.declared.Row.{Row}
 use Rattle.text.specs.declared.Line.{Line}
 use Rattle.lines.specs.declared.Cursor.{Cursor}
-use Rattle.lines.specs.Lines.{Reading, begin, readBy, lineOf}
+use Rattle.lines.specs.Lines.{begin, lineOf}
 use Rattle.lines.specs.Cells.{Shows}
 use Rattle.lines.proofs.Reading.{Keeps}
 use Rattle.lines.proofs.Due.{Onward, Ordered, onward}

@@ -1,9 +1,9 @@
 -- A record that was read keeps its ranges: each of its values stands in a line that keeps to its row, or is what blank means there.
 -- Assumes nothing.
-use mathlib.Core.Path.{_≡_, refl, ap, sym, _∙_, subst}
+use mathlib.Core.Path.{_≡_, refl, subst}
 use mathlib.Core.Bool.{Bool, true, false, cond}
 use mathlib.Core.List.{List}
-use Prim.Native.Nat.{ℕ, _+_, _*_, _≤_, _<_}
+use Prim.Native.Nat.{ℕ, _+_, _≤_, _<_}
 use native.Mathlib.Omega.{arith}
 use borrow.Author.Tests.{eq-eqb, eqb-false, ltb-false}
 use lib.Dec.{eqb, ltb}
@@ -13,7 +13,7 @@ use Rattle.finite.proofs.Tables.{getD-tabulate}
 use Rattle.energy.specs.declared.GrossKwh.{GrossKwh}
 use Rattle.units.specs.Units.{memberAt, members}
 use Rattle.units.proofs.Laws.{place-lt}
-use Rattle.text.specs.Rows.{word, numberRow, blankRow}
+use Rattle.text.specs.Rows.{word, blankRow}
 use Rattle.text.specs.declared.Row.{Row}
 use Rattle.text.specs.declared.Line.{Line}
 use Rattle.lines.specs.Lines.{lineOf, numberOf}
@@ -21,8 +21,8 @@ use Rattle.lines.proofs.Reading.{Keeps}
 use Rattle.lines.proofs.Numbers.{number-in, blank-in}
 use Rattle.record.specs.declared.UnitRecord.{UnitRecord}
 use Rattle.record.specs.Limits.{lastHour, mostPlantKwh, mostKwh, mostSince, mostSpans}
-use Rattle.record.specs.Rows.{headRows, unitRows, endRow, spansRow, headLines, unitLines, hourLine, netLine, reverseLine, declaredLine, realLine, testLine, deviationLine, powerLine, readingLine, sinceLine, repairLine, spansLine}
-use Rattle.record.specs.Hour.{noSpan, noUnit, valueOr, blockLine, declaredBy, spanBy, unitBy, placeBy, recordBy}
+use Rattle.record.specs.Rows.{headRows, unitRows, endRow, headLines, unitLines, hourLine, netLine, reverseLine, declaredLine, realLine, testLine, deviationLine, powerLine, readingLine, sinceLine, repairLine, spansLine}
+use Rattle.record.specs.Hour.{noSpan, valueOr, blockLine, declaredBy, spanBy, unitBy, placeBy, recordBy}
 use Rattle.record.specs.Spans.{pastUnit}
 use Rattle.record.proofs.Facts.{Whole}
 use Rattle.record.proofs.Same.{block-read}

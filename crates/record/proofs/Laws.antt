@@ -1,32 +1,38 @@
 -- What the crates above use of the reader: a record that was read keeps its ranges, its place is past the start and within the text,
--- and a refused reading gives the empty record and a number from 1 to 4.
+-- and a refused reading gives the empty record and a number from 1 to 4; a record that passes refusal 31 has units of 60 minutes.
 -- Assumes nothing.
-use mathlib.Core.Path.{_≡_, refl, ap, sym, _∙_, subst}
-use mathlib.Core.Bool.{Bool, true, false, cond, _||_}
+use mathlib.Core.Path.{_≡_, refl, ap, sym, _∙_}
+use mathlib.Core.Bool.{Bool, true, false, cond}
 use mathlib.Core.List.{List}
-use Prim.Native.Nat.{ℕ, _+_, _*_, _^_, _≤_, _<_}
+use Prim.Native.Nat.{ℕ, _+_, _^_, _≤_, _<_}
 use native.Mathlib.Omega.{arith}
-use borrow.Author.Tests.{eqb-true, eqb-false, ltb-false, eq-eqb, ne-eqb}
-use lib.Dec.{eqb, ltb}
+use borrow.Author.Tests.{eqb-true, eq-eqb}
+use lib.Dec.{eqb}
 use lib.Count.{ones}
 use lib.ListN.{length, drop, getD, length-drop}
 use Rattle.energy.specs.declared.GrossKwh.{GrossKwh}
+use Rattle.finite.proofs.Tests.{every-at}
 use Rattle.units.specs.Units.{memberAt}
+use Rattle.units.proofs.Laws.{place-lt}
 use Rattle.lines.specs.declared.Cursor.{Cursor}
 use Rattle.lines.specs.declared.TextRefusal.{TextRefusal}
 use Rattle.lines.specs.declared.TextRefusal.the-variants.{NotDue, BadValue, OfferOrder, TextEnds}
 use Rattle.lines.specs.declared.ReadAnswer.the-variants.{Read, Refused}
 use Rattle.lines.specs.Lines.{Reading, lineOf}
+use Rattle.lines.proofs.Reading.{start-within}
 use Rattle.lines.specs.Cells.{lineIn, Shows}
 use Rattle.lines.specs.Refusals.{textNumber, textRefusal, badStart, answerOf}
+use Rattle.record.specs.declared.UnitRecord.{UnitRecord}
+use Rattle.record.specs.declared.Record.{Record}
 use Rattle.record.specs.declared.RecordRead.{RecordRead}
-use Rattle.record.specs.Limits.{mostKwh}
+use Rattle.record.specs.Limits.{mostKwh, hourMinutes}
 use Rattle.record.specs.Rows.{readLines}
 use Rattle.record.specs.Hour.{recordBy, recordOf, noRecord, readRecord}
+use Rattle.record.specs.Spans.{unitAt, spanCount, minutesOf, placeMinutes, minutesHold}
 use Rattle.record.proofs.Facts.{whole, place-in, place-past}
 use Rattle.record.proofs.Same.{record-same}
 use Rattle.record.proofs.Good.{record-read}
-use Rattle.record.proofs.InRange.{InRange}
+use Rattle.record.proofs.InRange.{UnitInRange, InRange}
 
 -- the cells that show a good reading make its record
 pub shown-record : (text cells : List ℕ) (units : ℕ) (monthly : List GrossKwh) (c : Cursor) → units < 2 ^ 64 → Shows cells c (readLines text (ones units))
@@ -35,13 +41,6 @@ shown-record text cells units monthly c fits shown good room =
     let all = whole text (ones units) (sym (shown .refusal-is) ∙ good) in
     sym (record-same (lineOf (readLines text (ones units) .lines)) (lineIn cells) units monthly fits
     (λ k b h. shown .kept k (omega (arith, all .count)) (omega arith)))
-
-pub start-within : (text : List ℕ) (start : ℕ) → badStart text start ≡ false → (length text ≤ 65536) × (start ≤ length text)
-start-within text start = by (ltb 65536 (length text)) (ltb (length text) start) refl refl
-  where
-    by : (a b : Bool) → ltb 65536 (length text) ≡ a → ltb (length text) start ≡ b → (a || b) ≡ false → (length text ≤ 65536) × (start ≤ length text)
-    by true b d e h = absurd (let z : _≡_ {A = ℕ} 0 1 = cc in omega arith)
-    by false b d e h = (ltb-false _ _ d, ltb-false _ _ (e ∙ h))
 
 module _ (text : List ℕ) (start units : ℕ) (monthly : List GrossKwh) where
   pub start-bad : badStart text start ≡ true → readRecord text start units monthly ≡ record { answer = Refused (textRefusal 4 0); read = noRecord }
@@ -114,3 +113,14 @@ refused-number (NotDue line) = (omega arith, omega arith)
 refused-number (BadValue line) = (omega arith, omega arith)
 refused-number (OfferOrder line) = (omega arith, omega arith)
 refused-number (TextEnds line) = (omega arith, omega arith)
+
+-- the spans of a unit that was read are all there
+pub spans-all : (u : UnitRecord) → UnitInRange u → spanCount u ≡ u .spans
+spans-all u r = omega (arith, r .spans-most)
+
+-- a record that passes refusal 31
+pub minutes-told : (r : Record) (units k : ℕ) → minutesHold r units ≡ true → memberAt units k ≡ true → minutesOf (unitAt r k) ≡ hourMinutes
+unfolding minutesHold
+minutes-told r units k h m =
+    let t : placeMinutes r units k ≡ true = every-at 8 (placeMinutes r units) h k (place-lt units k m) in
+    eqb-true (minutesOf (unitAt r k)) hourMinutes (rw m at t)

@@ -1,9 +1,9 @@
 -- Two ways to look the lines up that agree make the same record: a unit's block lies among the lines read.
 -- Assumes nothing.
-use mathlib.Core.Path.{_≡_, refl, ap, sym, _∙_}
+use mathlib.Core.Path.{_≡_, refl}
 use mathlib.Core.Bool.{Bool, true, false, cond}
 use mathlib.Core.List.{List}
-use Prim.Native.Nat.{ℕ, _+_, _*_, _^_, _≤_, _<_}
+use Prim.Native.Nat.{ℕ, _+_, _*_, _^_, _<_}
 use native.Mathlib.Omega.{arith}
 use lib.Dec.{ltb}
 use lib.Count.{ones}
@@ -16,10 +16,8 @@ use Rattle.units.proofs.Ones.{ones-members}
 use Rattle.units.proofs.Laws.{place-lt, members-in, members-mono, members-le}
 use Rattle.text.specs.declared.Line.{Line}
 use Rattle.lines.specs.Lines.{numberOf}
-use Rattle.record.specs.declared.UnitRecord.{UnitRecord}
-use Rattle.record.specs.declared.Record.{Record}
 use Rattle.record.specs.Rows.{headLines, unitLines, hourLine, netLine, reverseLine, declaredLine, realLine, testLine, deviationLine, powerLine, readingLine, sinceLine, repairLine, spansLine}
-use Rattle.record.specs.Hour.{valueOr, spanBy, spansBy, blockLine, declaredBy, unitBy, placeBy, noUnit, recordBy}
+use Rattle.record.specs.Hour.{valueOr, spanBy, spansBy, blockLine, unitBy, placeBy, noUnit, recordBy}
 
 -- the blocks of a machine's mask: that of a unit in the plant is one of as many as the mask has ones
 pub block-read : (units k : ℕ) → units < 2 ^ 64 → memberAt units k ≡ true → members units k < ones units

@@ -1,7 +1,7 @@
 -- The hour record that the lines make, and its reader (01, Hour record).
 use Prim.Native.Nat.{ℕ, _+_, _*_, _/_}
 use mathlib.Core.Bool.{Bool, false, cond}
-use mathlib.Core.List.{List, []}
+use mathlib.Core.List.{List}
 use lib.Dec.{eqb, ltb}
 use lib.ListN.{drop, getD, replicate}
 use Rattle.finite.specs.Finite.{tabulate}
@@ -18,12 +18,13 @@ use Rattle.record.specs.declared.RecordRead.{RecordRead}
 use Rattle.record.specs.Limits.{mostSpans, hourMinutes}
 use Rattle.record.specs.Rows.{headLines, unitLines, hourLine, netLine, reverseLine, declaredLine, realLine, testLine, deviationLine, powerLine, readingLine, sinceLine, repairLine, spansLine, readLines}
 
--- a place without a span, a unit outside the plant, and the record of a refused reading
+-- a place without a span
 abbrev pub noSpan : Span
 noSpan = record { minutes = 0; kind = 0; cause = 0; capability = record { 0 = 0 } }
 
-abbrev pub noUnit : UnitRecord
-noUnit =
+-- a unit of zeros with these places for spans
+abbrev pub emptyUnit : List Span → UnitRecord
+emptyUnit span =
     record {
       declared = record { 0 = 0 };
       real = record { 0 = 0 };
@@ -35,8 +36,12 @@ noUnit =
       since = 0;
       repair = 0;
       spans = 0;
-      span = replicate mostSpans noSpan;
+      span = span;
     }
+
+-- a unit outside the plant, and the record of a refused reading
+abbrev pub noUnit : UnitRecord
+noUnit = emptyUnit (replicate mostSpans noSpan)
 
 abbrev pub noRecord : Record
 noRecord = record { hour = 0; net = record { 0 = 0 }; reverse = record { 0 = 0 }; unit = replicate 8 noUnit }
@@ -63,6 +68,7 @@ spanIn l i =
 abbrev pub wholeHour : GrossKwh → Span
 wholeHour declared = record { minutes = hourMinutes; kind = 1; cause = 0; capability = declared }
 
+-- the span of place i, and how many there are
 unfoldable pub spanBy : Line → GrossKwh → ℕ → Span
 spanBy l declared i = cond (blank l) (cond (eqb i 0) (wholeHour declared) noSpan) (spanIn l i)
 

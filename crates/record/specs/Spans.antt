@@ -1,8 +1,7 @@
 -- How a span's kind counts, and refusal 31 (01, Hour record; Book and journal).
 use Prim.Native.Nat.{ℕ, min}
 use mathlib.Core.Bool.{Bool, true, cond, _||_}
-use mathlib.Core.List.{List, []}
-use mathlib.Core.Bool.{false}
+use mathlib.Core.List.{[]}
 use lib.Dec.{eqb}
 use lib.ListN.{getD}
 use Rattle.finite.specs.Finite.{sum, every}
@@ -11,7 +10,7 @@ use Rattle.record.specs.declared.Span.{Span}
 use Rattle.record.specs.declared.UnitRecord.{UnitRecord}
 use Rattle.record.specs.declared.Record.{Record}
 use Rattle.record.specs.Limits.{mostSpans, hourMinutes}
-use Rattle.record.specs.Hour.{noSpan}
+use Rattle.record.specs.Hour.{noSpan, emptyUnit}
 
 -- 01, Hour record: "Kind 2 or 3 counts as 7 under cause 1, as 5 under cause 2."
 unfoldable pub countedKind : Span → ℕ
@@ -20,20 +19,7 @@ countedKind s =
 
 -- what an index past the end of the units reads
 abbrev pub pastUnit : UnitRecord
-pastUnit =
-    record {
-      declared = record { 0 = 0 };
-      real = record { 0 = 0 };
-      test = record { 0 = 0 };
-      deviation = record { 0 = 0 };
-      power = record { 0 = 0 };
-      measured = false;
-      reading = record { 0 = 0 };
-      since = 0;
-      repair = 0;
-      spans = 0;
-      span = [];
-    }
+pastUnit = emptyUnit []
 
 -- the unit of place k, and its span of place i
 abbrev pub unitAt : Record → ℕ → UnitRecord

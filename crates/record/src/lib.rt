@@ -1,7 +1,7 @@
 // The hour record: its type, its reader, how a span's kind counts, and the test of the spans' minutes.
 ghost use mathlib.Core.Path.{_≡_};
-ghost use Prim.Native.Nat.{ℕ, _+_, _*_, _^_, _≤_, _<_};
-ghost use lib.ListN.{length, getD};
+ghost use Prim.Native.Nat.{_+_, _*_, _^_, _≤_, _<_};
+ghost use lib.ListN.{getD};
 ghost use lib.Dec.{eqb};
 ghost use Rattle.finite.specs.Finite.{tabulate};
 ghost use Rattle.lines.specs.Cells.{lineIn, Shows};
@@ -159,6 +159,7 @@ fn value_or(cells: &[u64], k: usize, blank: u64) -> u64
     lines::number_at(cells, k, 0)
 }
 
+// A place without a span.
 pub fn no_span() -> Span
     ensures { λ r. ⌜ r ≡ noSpan ⌝ }
 {
@@ -220,7 +221,8 @@ fn span_list(cells: &[u64], k: usize, declared: GrossKwh) -> [Span; 6]
     span
 }
 
-fn no_unit() -> UnitRecord
+// A unit outside the plant.
+pub fn no_unit() -> UnitRecord
     ensures { λ r. ⌜ r ≡ noUnit ⌝ }
 {
     UnitRecord {
@@ -238,6 +240,7 @@ fn no_unit() -> UnitRecord
     }
 }
 
+// The record of a refused reading.
 pub fn no_record() -> Record
     ensures { λ r. ⌜ r ≡ noRecord ⌝ }
 {

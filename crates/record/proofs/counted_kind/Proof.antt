@@ -1,8 +1,6 @@
 -- Each test is one of the definition: a kind from 2 to 3 is 2 or 3.
-use mathlib.Core.Path.{_≡_, ap, sym, _∙_}
 use borrow.Author.Tests.{eq-eqb, ne-eqb}
 use native.Mathlib.Omega.{arith}
-use Rattle.record.specs.Spans.{countedKind}
 use Rattle.record.proofs.Counted.{other-kind, moved-kind}
 use Rattle.record.proofs.counted_kind.Statement.{statement}
 use Rattle.record.proofs.counted_kind.Tie as tie

@@ -1,6 +1,6 @@
 -- The unit's block where it is in the plant, else the empty unit.
 use Prim.Native.Nat.{ℕ}
-use mathlib.Core.Path.{_≡_, ap, sym, _∙_}
+use mathlib.Core.Path.{ap, sym, _∙_}
 use native.Mathlib.Omega.{arith}
 use lib.ListN.{getD}
 use Rattle.units.proofs.Laws.{members-le}

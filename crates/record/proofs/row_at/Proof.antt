@@ -1,5 +1,4 @@
 -- The three returns are the three cases of the definition.
-use mathlib.Core.Path.{sym, _∙_}
 use borrow.Author.Tests.{lt-ltb, le-ltb}
 use Rattle.record.specs.Rows.{rowAt}
 use borrow.Author.Needs.{needs}

@@ -1,5 +1,5 @@
 -- The three returns are the three cases of the definition.
-use mathlib.Core.Path.{_≡_, ap, sym, _∙_}
+use mathlib.Core.Path.{sym, _∙_}
 use borrow.Author.Tests.{eq-eqb, ne-eqb}
 use Rattle.record.specs.Hour.{spanBy}
 use borrow.Author.Needs.{needs}

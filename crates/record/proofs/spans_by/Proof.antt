@@ -1,5 +1,5 @@
 -- The two returns are the two cases of the definition.
-use mathlib.Core.Path.{_≡_, ap, sym, _∙_}
+use mathlib.Core.Path.{ap, sym, _∙_}
 use borrow.Author.Tests.{eq-eqb, ne-eqb}
 use Prim.Native.Nat.{ℕ, _/_}
 use Rattle.record.specs.Hour.{spansBy}

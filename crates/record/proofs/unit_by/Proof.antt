@@ -1,6 +1,6 @@
 -- The values are those of the block's lines.
 use Prim.Native.Nat.{ℕ}
-use mathlib.Core.Path.{_≡_, ap, sym, _∙_}
+use mathlib.Core.Path.{ap, sym, _∙_}
 use native.Mathlib.Nat.{add-zero}
 use Rattle.lines.specs.Cells.{lineIn}
 use Rattle.record.specs.Hour.{valueOr, blockLine}

@@ -1,5 +1,5 @@
 -- The two returns are the two cases of the definition.
-use mathlib.Core.Path.{_≡_, ap, sym, _∙_}
+use mathlib.Core.Path.{sym, _∙_}
 use borrow.Author.Tests.{eq-eqb, ne-eqb}
 use borrow.Author.Needs.{needs}
 use Rattle.record.proofs.value_or.Statement.{statement}
