@@ -8,6 +8,7 @@
 
 pub mod allocation;
 pub mod check;
+pub mod damage;
 pub mod generate;
 pub mod items;
 pub mod ledger;
