@@ -100,9 +100,8 @@ fn hour(ledger: &Ledger, h: usize, record: &Record) -> Result<(), String> {
         ceilings.iter().sum::<u64>() == n.max(real) * sheet.hub_of_one(),
         || "the ceilings do not total max(N, R)".to_string(),
     )?;
-    let price = |u: usize, grain: u64| {
-        modified_price(&sheet.units[u].offers[h], commitments[u], grain)
-    };
+    let price =
+        |u: usize, grain: u64| modified_price(&sheet.units[u].offers[h], commitments[u], grain);
     for a in sheet.plant() {
         require(energies[a] <= ceilings[a], || {
             format!("unit {} is above its ceiling", a + 1)
@@ -122,16 +121,16 @@ fn hour(ledger: &Ledger, h: usize, record: &Record) -> Result<(), String> {
             }
         }
     }
-    require(
-        *result == items::settle(sheet, record, commitments),
-        || "the amounts are not the record's".to_string(),
-    )?;
+    require(*result == items::settle(sheet, record, commitments), || {
+        "the amounts are not the record's".to_string()
+    })?;
     for u in sheet.plant() {
         let offer = &sheet.units[u].offers[h];
         let energy_pay = cost(offer, commitments[u], energies[u]) / 10_000_000;
-        require(i128::from(result.amounts[u][0]) == energy_pay as i128, || {
-            format!("unit {}: item 1 is not {energy_pay}", u + 1)
-        })?;
+        require(
+            i128::from(result.amounts[u][0]) == energy_pay as i128,
+            || format!("unit {}: item 1 is not {energy_pay}", u + 1),
+        )?;
         require(
             result.amounts[u][1] >= 0 && result.amounts[u][2..].iter().all(|&amount| amount <= 0),
             || format!("unit {}: a sign is wrong", u + 1),
@@ -245,7 +244,9 @@ pub fn calls(groups: &[Group], answers: &[Answer], ledger: &Ledger) -> Result<()
                 if group.kind == 4 || group.kind == 5 {
                     stands[hour - 1] = true;
                 } else {
-                    require(group.hour as usize == hour, || "void of another hour".to_string())?;
+                    require(group.hour as usize == hour, || {
+                        "void of another hour".to_string()
+                    })?;
                     stands[hour - 1] = false;
                 }
             }

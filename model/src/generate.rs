@@ -440,12 +440,10 @@ impl Maker<'_> {
                     let kwh = *self.random.pick(&[0, 1, 999_999_999]);
                     return put_words(text, "take=", &[hour as u64, unit, kwh]);
                 }
-                let fault = *self.random.pick(&[
-                    Fault::None,
-                    Fault::None,
-                    Fault::Readings,
-                    Fault::Minutes,
-                ]);
+                let fault =
+                    *self
+                        .random
+                        .pick(&[Fault::None, Fault::None, Fault::Readings, Fault::Minutes]);
                 let record = self.record(hour, fault);
                 return self.put_record(text, &record);
             }
@@ -658,12 +656,16 @@ impl Maker<'_> {
         if !self.sheet.has(gap) && self.random.percent(70) {
             gap
         } else {
-            *self.random.pick(&[0, 9, 10, 33, 64, 65, 256, 257, 999_999_999])
+            *self
+                .random
+                .pick(&[0, 9, 10, 33, 64, 65, 256, 257, 999_999_999])
         }
     }
 
     fn wrong_hour(&mut self) -> u64 {
-        *self.random.pick(&[0, 25, 25, 26, 33, 256, 257, 999_999_999])
+        *self
+            .random
+            .pick(&[0, 25, 25, 26, 33, 256, 257, 999_999_999])
     }
 
     /// How much more a unit of the plant takes in an hour.
@@ -864,7 +866,10 @@ impl Maker<'_> {
         let old = unit.reading;
         if old.is_some() || (!alone && random.percent(50)) {
             unit.reading = Some(energy);
-            let total = members.iter().filter_map(|&u| record.units[u].reading).sum();
+            let total = members
+                .iter()
+                .filter_map(|&u| record.units[u].reading)
+                .sum();
             let blank = members.iter().any(|&u| record.units[u].reading.is_none());
             record.net = if blank { record.net.max(total) } else { total };
         } else if alone {
@@ -960,7 +965,16 @@ fn hours(random: &mut Random) -> [usize; HOURS] {
 
 fn sheet(random: &mut Random, scale: Scale, units: Option<u64>) -> Sheet {
     let (month, day) = if random.percent(40) {
-        *random.pick(&[(3, 14), (3, 15), (3, 31), (4, 1), (6, 15), (6, 16), (6, 31), (12, 30)])
+        *random.pick(&[
+            (3, 14),
+            (3, 15),
+            (3, 31),
+            (4, 1),
+            (6, 15),
+            (6, 16),
+            (6, 31),
+            (12, 30),
+        ])
     } else {
         let month = random.range(1, 12);
         (month, random.range(1, days_in(month)))
@@ -1102,16 +1116,36 @@ pub fn put_record(
     };
     put_words(out, "hour=", &[record.hour]);
     put(out, "net=", record.net, record.net == 0 && blank());
-    put(out, "reverse=", record.reverse, record.reverse == 0 && blank());
+    put(
+        out,
+        "reverse=",
+        record.reverse,
+        record.reverse == 0 && blank(),
+    );
     for u in sheet.plant() {
         let monthly = sheet.units[u].monthly;
         let unit = &record.units[u];
-        put(out, "declared=", unit.declared, unit.declared == monthly && blank());
+        put(
+            out,
+            "declared=",
+            unit.declared,
+            unit.declared == monthly && blank(),
+        );
         put(out, "real=", unit.real, unit.real == 0 && blank());
         put(out, "test=", unit.test, unit.test == 0 && blank());
-        put(out, "deviation=", unit.deviation, unit.deviation == 0 && blank());
+        put(
+            out,
+            "deviation=",
+            unit.deviation,
+            unit.deviation == 0 && blank(),
+        );
         put(out, "power=", unit.power, unit.power == monthly && blank());
-        put(out, "reading=", unit.reading.unwrap_or(0), unit.reading.is_none());
+        put(
+            out,
+            "reading=",
+            unit.reading.unwrap_or(0),
+            unit.reading.is_none(),
+        );
         put(out, "since=", unit.since, unit.since == 1 && blank());
         put(out, "repair=", unit.repair, unit.repair == 0 && blank());
         if unit.spans == Spans::whole_hour(unit.declared) && blank() {

@@ -346,7 +346,11 @@ impl Ledger {
                     .any(|&energy| energy > 80_000_000_000)
             })
         };
-        commitments_wrong() || count_wrong() || amounts_wrong() || postings_wrong() || energies_wrong()
+        commitments_wrong()
+            || count_wrong()
+            || amounts_wrong()
+            || postings_wrong()
+            || energies_wrong()
     }
 
     /// Refusal 11; the unit's index.

@@ -68,9 +68,10 @@ impl Offer {
     /// Number of pairs, ranges and order, for an offer of any values.
     pub fn is_allowed(&self) -> bool {
         (1..=STEPS).contains(&self.count)
-            && self.steps().iter().all(|step| {
-                (1..=MOST_KWH).contains(&step.quantity) && step.price <= MOST_PRICE
-            })
+            && self
+                .steps()
+                .iter()
+                .all(|step| (1..=MOST_KWH).contains(&step.quantity) && step.price <= MOST_PRICE)
             && self.in_order()
     }
 }

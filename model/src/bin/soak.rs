@@ -58,7 +58,9 @@ impl Seen {
                 self.accepted += u64::from(is_result);
                 continue;
             };
-            let digits = line[at + 8..].iter().take_while(|byte| byte.is_ascii_digit());
+            let digits = line[at + 8..]
+                .iter()
+                .take_while(|byte| byte.is_ascii_digit());
             let number = digits.fold(0, |n, digit| 10 * n + digit - b'0');
             self.refuse(number);
         }
@@ -119,7 +121,9 @@ fn days(seed: u64, count: u64) -> Result<(), String> {
         }
         let again = statement::carry_out(&text, Checks::EveryCall);
         if statement::print_outcome(&again) != statement::print_outcome(&outcome) {
-            return Err(problem("checking 9 and 12 at every call differs".to_string()));
+            return Err(problem(
+                "checking 9 and 12 at every call differs".to_string(),
+            ));
         }
     }
     seen.print("days");
@@ -143,7 +147,9 @@ fn call_texts(seed: u64, count: u64) -> Result<(), String> {
             check::ledger(ledger).map_err(problem)?;
         }
         if replay::carry_out(&text, places, Checks::EveryCall).0 != printed {
-            return Err(problem("checking 9 and 12 at every call differs".to_string()));
+            return Err(problem(
+                "checking 9 and 12 at every call differs".to_string(),
+            ));
         }
     }
     seen.print("call texts");

@@ -78,11 +78,7 @@ fn read(path: &Path) -> Result<Vec<u8>, String> {
 }
 
 /// The first line that differs, with the file that it belongs to.
-fn first_difference(
-    printed: &[u8],
-    expected: &[u8],
-    ends: &[(usize, String)],
-) -> Option<String> {
+fn first_difference(printed: &[u8], expected: &[u8], ends: &[(usize, String)]) -> Option<String> {
     if printed == expected {
         return None;
     }
@@ -124,7 +120,11 @@ fn readings(file: &str, text: &[u8]) -> Vec<u8> {
             for place in line_starts.chain([text.len(), text.len() + 1]) {
                 match Record::read(text, place, &sheet) {
                     Ok((record, after)) => {
-                        writeln!(out, "{file} record {place} read {after} hour {}", record.hour)
+                        writeln!(
+                            out,
+                            "{file} record {place} read {after} hour {}",
+                            record.hour
+                        )
                     }
                     Err(refusal) => writeln!(out, "{file} record {place} {}", refused(refusal)),
                 }
