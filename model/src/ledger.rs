@@ -140,6 +140,11 @@ impl Ledger {
         &self.postings
     }
 
+    /// Makes room in memory for postings to come.
+    pub fn reserve(&mut self, postings: usize) {
+        self.postings.reserve(postings);
+    }
+
     /// Carries out a call.
     pub fn call(&mut self, call: &Call) -> Answer {
         let answer = match *call {

@@ -10,6 +10,7 @@ pub mod allocation;
 pub mod check;
 pub mod damage;
 pub mod generate;
+pub mod inputs;
 pub mod items;
 pub mod ledger;
 pub mod random;
