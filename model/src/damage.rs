@@ -37,7 +37,28 @@ pub fn damage(random: &mut Random, text: &mut Vec<u8>, from: usize) {
         18 => {
             text.pop();
         }
-        19..=24 => bound(random, text, at),
+        19..=22 => bound(random, text, at),
+        // One of the lines that are few.
+        23..=24 => {
+            let keys: [&[u8]; 12] = [
+                b"month=",
+                b"day=",
+                b"day=",
+                b"loss=",
+                b"ceiling=",
+                b"bar=",
+                b"units=",
+                b"own=",
+                b"nominal=",
+                b"monthly=",
+                b"hour=",
+                b"end=",
+            ];
+            let key = *random.pick(&keys);
+            if let Some(value) = value_of(text, at, key) {
+                bound(random, text, value.start - 1);
+            }
+        }
         25..=28 => malformed(random, text, at),
         29..=30 => wrong_key(random, text, at),
         31 => {
