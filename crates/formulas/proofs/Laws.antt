@@ -1,0 +1,72 @@
+-- What the crates above use of the items: how large each can be.
+-- Assumes nothing.
+use mathlib.Core.Path.{_≡_, sym, _∙_}
+use mathlib.Core.Bool.{Bool, true, false}
+use Prim.Native.Nat.{ℕ, _+_, _*_, _-_, _≤_, _<_}
+use native.Mathlib.Nat.{mul-le-mul, mul-le-mul-right}
+use native.Mathlib.Decide.{decLt}
+use native.Mathlib.Omega.{arith}
+use borrow.Author.Tests.{lt-ltb, le-ltb}
+use lib.Dec.{ltb}
+use lib.ListN.{getD}
+use Rattle.finite.specs.Finite.{sum}
+use Rattle.finite.proofs.Sums.{sum-has}
+use Rattle.energy.specs.declared.GrossKwh.{GrossKwh}
+use Rattle.energy.specs.declared.NetKwh.{NetKwh}
+use Rattle.energy.proofs.Laws.{pay-most}
+use Rattle.formulas.specs.declared.Deviations.{Deviations}
+use Rattle.formulas.specs.Items.{kinds, deviationOf, Bounded, energyPay, availability, declarationCeiling, refundKwh, refund, countedDeviation, weighted, drawnPay}
+
+-- a difference is over 0 where its first number is the larger
+pub over-test : (a b : ℕ) → ltb 0 (a - b) ≡ ltb b a
+over-test a b = go (decLt b a)
+  where
+    go : Dec (b < a) → ltb 0 (a - b) ≡ ltb b a
+    go (yes l) = let h : 0 < a - b = omega arith in lt-ltb 0 (a - b) h ∙ sym (lt-ltb b a l)
+    go (no l) = let h : a - b ≤ 0 = omega arith in let k : a ≤ b = omega arith in le-ltb 0 (a - b) h ∙ sym (le-ltb b a k)
+
+-- what counts of a deviation on a repair day is at most the deviation
+pub exempt-le : (repair kwh : ℕ) → (1 - repair) * kwh ≤ kwh
+exempt-le repair kwh = let h : 1 - repair ≤ 1 = omega arith in omega (arith, mul-le-mul-right kwh h)
+
+-- item 1: 10^7 a grain are a Rial a grain
+pub energy-pay-most : (cost n : ℕ) → cost ≤ n * 10000000 → energyPay cost ≤ n
+unfolding energyPay
+energy-pay-most cost n h = omega arith
+
+-- items 2 and 3: at most 10^10
+module _ (declared : NetKwh) (cpf bar : ℕ) (able : declared .0 ≤ 1000000) (c : cpf ≤ 10000) (b : bar ≤ 1000000) where
+  pub availability-most : (gate : NetKwh) → availability declared gate cpf bar ≤ 10000000000
+  unfolding availability
+  availability-most gate = pay-most cpf bar (record { 0 = declared .0 - gate .0 }) (omega arith) c b
+
+  pub refund-most : (real : NetKwh) (d : Deviations) (allowed : NetKwh) → refund declared real d allowed cpf bar ≤ 10000000000
+  unfolding refund refundKwh
+  refund-most real d allowed = pay-most cpf bar (refundKwh declared real d allowed) (omega arith) c b
+
+-- A is at most 6,000 over the power
+pub ceiling-most : (season : Bool) (power : GrossKwh) → declarationCeiling season power .0 ≤ power .0 + 6000
+unfolding declarationCeiling
+ceiling-most true power = omega arith
+ceiling-most false power = omega arith
+
+-- item 4: W is at most ten times the deviation
+module _ (d : Deviations) (most : ℕ) (split : sum kinds (λ i. getD (d .kwh) i 0) ≤ most) where
+  pub deviation-most : (i : ℕ) → i < kinds → getD (d .kwh) i 0 ≤ most
+  deviation-most i l = omega (arith, sum-has kinds i (λ i. getD (d .kwh) i 0) l)
+
+  pub counted-most : (repair : ℕ) → countedDeviation d repair .0 ≤ most
+  unfolding countedDeviation sum
+  counted-most repair = omega (arith, exempt-le repair (deviationOf d 6))
+
+  pub weighted-most : (repair : ℕ) → weighted d repair ≤ 10 * most
+  unfolding weighted sum
+  weighted-most repair = omega (arith, exempt-le repair (deviationOf d 6))
+
+-- item 5: at most 8 × 10^10
+pub drawn-most : (reverse net : NetKwh) (ceiling loss : ℕ) → reverse .0 ≤ 8000000 → ceiling ≤ 10000000 → drawnPay reverse net ceiling loss ≤ 80000000000
+unfolding drawnPay
+drawn-most reverse net ceiling loss r p =
+    let d : reverse .0 - net .0 ≤ 8000000 = omega arith in
+    let k : 10000 - loss ≤ 10000 = omega arith in
+    omega (arith, mul-le-mul (mul-le-mul d p) k)

@@ -1,0 +1,3 @@
+pub mod Amounts
+pub mod Charge
+pub mod Laws

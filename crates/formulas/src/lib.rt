@@ -1,0 +1,252 @@
+// The arithmetic of a unit's five items, in Rial: the season, the ceiling of a declaration, each item's magnitude, and its sign.
+ghost use mathlib.Core.Path.{_≡_};
+ghost use Prim.Native.Nat.{_+_, _*_, _-_, _^_, _≤_, _<_, min};
+ghost use Rattle.formulas.specs.Items.{firstKind, kinds, deviationOf, Bounded, inOrder, inSeason, declarationCeiling, energyPay, availability, refundKwh, refund as «the_refund», countedDeviation, isCharged, weighted as «the_weighted», baseCharge, growth as «the_growth», hoursCounted, chargeOf, NearExact, drawnPay, paid as «the_paid», owed as «the_owed»};
+use energy::GrossKwh;
+use energy::HubGrains;
+use energy::NetKwh;
+
+// The number of kinds that a deviation is split into: 2 to 7.
+pub const KINDS: usize = 6;
+
+// A unit's deviation by kind, from kind 2 on, in net kWh at the gate.
+pub struct Deviations {
+    pub kwh: [u64; KINDS],
+}
+
+// The deviation of a kind.
+fn of_kind(d: Deviations, kind: usize) -> u64
+    requires { ⌜ (firstKind ≤ kind) × (kind < firstKind + kinds) ⌝ }
+    ensures { λ r. ⌜ r ≡ deviationOf d kind ⌝ }
+{
+    d.kwh[kind - 2]
+}
+
+// An amount that is paid, and one that is owed: the magnitude negated.
+pub fn paid(magnitude: u64) -> i64
+    requires { ⌜ magnitude < 2 ^ 63 ⌝ }
+    ensures { λ r. ⌜ r ≡ «the_paid» magnitude ⌝ }
+{
+    magnitude as i64
+}
+
+pub fn owed(magnitude: u64) -> i64
+    requires { ⌜ magnitude < 2 ^ 63 ⌝ }
+    ensures { λ r. ⌜ r ≡ «the_owed» magnitude ⌝ }
+{
+    -(magnitude as i64)
+}
+
+// Item 1, by the undivided cost of the unit's grains.
+pub fn energy_pay(cost: u64) -> u64
+    ensures { λ r. ⌜ r ≡ energyPay cost ⌝ }
+{
+    cost / 10000000
+}
+
+// max(a - b, 0)
+pub fn above(a: u64, b: u64) -> u64
+    ensures { λ r. ⌜ r ≡ a - b ⌝ }
+{
+    if a < b {
+        return 0;
+    }
+    a - b
+}
+
+// Item 2: availability beyond the commitment's gate energy.
+pub fn availability_pay(declared: NetKwh, gate: NetKwh, cpf: u64, bar: u64) -> u64
+    requires { ⌜ (declared .0 ≤ 10000000) × (cpf ≤ 10000) × (bar ≤ 1000000) ⌝ }
+    ensures { λ r. ⌜ r ≡ availability declared gate cpf bar ⌝ }
+{
+    energy::pay_of(NetKwh(above(declared.0, gate.0)), cpf, bar)
+}
+
+// Whether a day comes no later than another.
+fn in_order(month: u64, day: u64, other_month: u64, other_day: u64) -> bool
+    ensures { λ r. ⌜ r ≡ inOrder month day «other_month» «other_day» ⌝ }
+{
+    if month < other_month {
+        return true;
+    }
+    if month == other_month {
+        return day <= other_day;
+    }
+    false
+}
+
+// Whether a day lies in the season, from 15/3 to 15/6.
+pub fn in_season(month: u64, day: u64) -> bool
+    ensures { λ r. ⌜ r ≡ inSeason month day ⌝ }
+{
+    if in_order(3, 15, month, day) {
+        return in_order(month, day, 6, 15);
+    }
+    false
+}
+
+// The lesser of two numbers.
+fn least(a: u64, b: u64) -> u64
+    ensures { λ r. ⌜ r ≡ min a b ⌝ }
+{
+    if a < b { a } else { b }
+}
+
+// The declaration ceiling A, by the practical power with the main fuel.
+pub fn declaration_ceiling(season: bool, power: GrossKwh) -> GrossKwh
+    requires { ⌜ power .0 ≤ 1000000000 ⌝ }
+    ensures { λ r. ⌜ r ≡ declarationCeiling season power ⌝ }
+{
+    if season {
+        return GrossKwh(power.0 + least(power.0 * 6 / 100, 6000));
+    }
+    GrossKwh(power.0 + least(power.0 * 3 / 100, 3000))
+}
+
+// The kWh that item 3 takes back, by D, `real`, the deviations and net(A).
+pub fn refund_kwh(declared: NetKwh, real: NetKwh, d: Deviations, allowed: NetKwh) -> NetKwh
+    requires { ⌜ (real .0 ≤ 1000000000) × Bounded d ⌝ }
+    ensures { λ r. ⌜ r ≡ refundKwh declared real d allowed ⌝ }
+{
+    let short = above(declared.0, real.0 + of_kind(d, 5) + of_kind(d, 7));
+    let over = above(declared.0, allowed.0);
+    if short < over {
+        return NetKwh(over);
+    }
+    NetKwh(short)
+}
+
+// Item 3, a magnitude.
+pub fn refund(
+    declared: NetKwh,
+    real: NetKwh,
+    d: Deviations,
+    allowed: NetKwh,
+    cpf: u64,
+    bar: u64,
+) -> u64
+    requires { ⌜ (declared .0 ≤ 10000000) × (real .0 ≤ 1000000000) × Bounded d × (cpf ≤ 10000) × (bar ≤ 1000000) ⌝ }
+    ensures { λ r. ⌜ r ≡ «the_refund» declared real d allowed cpf bar ⌝ }
+{
+    energy::pay_of(refund_kwh(declared, real, d, allowed), cpf, bar)
+}
+
+// What counts of a repair day's deviation: nothing.
+fn unless_repair(repair: u64, kwh: u64) -> u64
+    ensures { λ r. ⌜ r ≡ (1 - repair) * kwh ⌝ }
+{
+    if repair == 0 {
+        return kwh;
+    }
+    0
+}
+
+// The counted deviation q.
+pub fn counted_deviation(d: Deviations, repair: u64) -> NetKwh
+    requires { ⌜ Bounded d ⌝ }
+    ensures { λ r. ⌜ r ≡ countedDeviation d repair ⌝ }
+{
+    NetKwh(of_kind(d, 2) + of_kind(d, 3) + unless_repair(repair, of_kind(d, 6)))
+}
+
+// Whether the counted deviation is charged: over 2,000 kWh, or twenty times it over the reading; of an unmeasured unit, twenty times it
+// at the hub over the unit's energy.
+pub fn is_charged(q: NetKwh, measured: bool, reading: NetKwh, energy: HubGrains, loss: u64) -> bool
+    requires { ⌜ (q .0 ≤ 1000000000000) × (loss ≤ 10000) ⌝ }
+    ensures { λ r. ⌜ r ≡ isCharged q measured reading energy loss ⌝ }
+{
+    if q.0 > 2000 {
+        return true;
+    }
+    let twenty = 20 * q.0;
+    if measured {
+        return twenty > reading.0;
+    }
+    let kept = 10000 - loss;
+    let over = above(twenty * kept, energy.0);
+    over > 0
+}
+
+// The weighted deviation W, in tenths of a kWh.
+pub fn weighted(d: Deviations, repair: u64) -> u64
+    requires { ⌜ Bounded d ⌝ }
+    ensures { λ r. ⌜ r ≡ «the_weighted» d repair ⌝ }
+{
+    10 * of_kind(d, 2) + 5 * of_kind(d, 3) + 10 * unless_repair(repair, of_kind(d, 6))
+}
+
+// The charge of the first hour, b.
+fn base_charge(w: u64, cpf: u64, bar: u64) -> u64
+    requires { ⌜ (w ≤ 10000000) × (cpf ≤ 10000) × (bar ≤ 1000000) ⌝ }
+    ensures { λ r. ⌜ r ≡ baseCharge w cpf bar ⌝ }
+{
+    let tenths = w * 125;
+    let rated = tenths * cpf;
+    let product = rated * bar;
+    product / 1000000000
+}
+
+// 10^8 × 1.05^n, rounded down, for n from 0 to 24.
+const GROWTH: [u64; 25] = [
+    100000000,
+    105000000,
+    110250000,
+    115762500,
+    121550625,
+    127628156,
+    134009564,
+    140710042,
+    147745544,
+    155132821,
+    162889462,
+    171033935,
+    179585632,
+    188564914,
+    197993159,
+    207892817,
+    218287458,
+    229201831,
+    240661923,
+    252695019,
+    265329770,
+    278596259,
+    292526071,
+    307152375,
+    322509994,
+];
+
+fn growth(n: usize) -> u64
+    requires { ⌜ n ≤ 24 ⌝ }
+    ensures { λ r. ⌜ r ≡ «the_growth» n ⌝ }
+{
+    GROWTH[n]
+}
+
+// How many hours before this one the deviation has grown for, 24 at most.
+fn hours_counted(since: u64) -> u64
+    ensures { λ r. ⌜ r ≡ hoursCounted since ⌝ }
+{
+    least(above(since, 1), 24)
+}
+
+// The charge of a weighted deviation in its hour `since`: not over the exact product, and less than 130 Rial short of it.
+pub fn charge_of(w: u64, since: u64, cpf: u64, bar: u64) -> u64
+    requires { ⌜ (w ≤ 10000000) × (cpf ≤ 10000) × (bar ≤ 1000000) ⌝ }
+    ensures { λ r. ⌜ r ≡ chargeOf w since cpf bar ⌝ }
+    ensures { λ r. ⌜ NearExact w cpf bar (hoursCounted since) r ⌝ }
+{
+    let base = base_charge(w, cpf, bar);
+    let n = hours_counted(since) as usize;
+    base * growth(n) / 100000000
+}
+
+// Item 5, a magnitude: energy drawn from the grid, at the ceiling price.
+pub fn drawn_pay(reverse: NetKwh, net: NetKwh, ceiling: u64, loss: u64) -> u64
+    requires { ⌜ (reverse .0 ≤ 10000000) × (ceiling ≤ 10000000) × (loss ≤ 10000) ⌝ }
+    ensures { λ r. ⌜ r ≡ drawnPay reverse net ceiling loss ⌝ }
+{
+    let drawn = above(reverse.0, net.0);
+    let priced = drawn * ceiling;
+    let product = priced * (10000 - loss);
+    product / 10000000
+}

@@ -1,0 +1,4 @@
+pub mod Weights
+pub mod Ready
+pub mod Sizes
+pub mod Laws

@@ -1,0 +1,4 @@
+pub mod Deviation
+pub mod Hour
+pub mod Refusals
+pub mod Ranges

@@ -1,0 +1,64 @@
+-- What the code rests on: the ranges that the sheet, the record and the commitments keep.
+use mathlib.Core.Path.{_≡_}
+use mathlib.Core.Bool.{true, cond}
+use mathlib.Core.List.{List}
+use Prim.Native.Nat.{ℕ, _≤_}
+use lib.ListN.{getD}
+use Rattle.finite.specs.Finite.{sum}
+use Rattle.energy.specs.declared.HubKwh.{HubKwh}
+use Rattle.energy.specs.declared.HubGrains.{HubGrains}
+use Rattle.units.specs.Units.{memberAt, isLowest}
+use Rattle.offer.specs.declared.Offer.{Offer}
+use Rattle.offer.specs.Offer.{offerHolds, pastOffer}
+use Rattle.sheet.specs.declared.Sheet.{Sheet}
+use Rattle.sheet.specs.Ranges.{sheetHolds}
+use Rattle.record.specs.declared.UnitRecord.{UnitRecord}
+use Rattle.record.specs.declared.Record.{Record}
+use Rattle.record.specs.Spans.{pastUnit}
+use Rattle.record.proofs.InRange.{UnitInRange, InRange}
+use Rattle.formulas.specs.declared.Deviations.{Deviations}
+use Rattle.formulas.specs.Items.{kinds}
+use Rattle.settlement.specs.declared.Rates.{Rates}
+use Rattle.settlement.specs.declared.Amounts.{Amounts}
+use Rattle.settlement.specs.Hour.{noAmounts, amountsOf}
+
+-- the sheet passes refusal 9, and the record was read for its units
+pub record HourRead (sheet : Sheet) (r : Record) : Type 0 where
+  pub sheet-holds : sheetHolds sheet ≡ true
+  pub in-range : InRange (sheet .units) r
+
+-- and no commitment is over 10^6, as 12 keeps it
+pub record HourReady (sheet : Sheet) (r : Record) (commitment : List HubKwh) : Type 0 where
+  pub read : HourRead sheet r
+  pub committed : (k : ℕ) → memberAt (sheet .units) k ≡ true → getD commitment k (record { 0 = 0 }) .0 ≤ 1000000
+
+-- the same of what a unit's formulas use
+pub record RatesReady (rates : Rates) : Type 0 where
+  pub loss : rates .loss ≤ 2000
+  pub cpf : rates .cpf ≤ 10000
+  pub bar : rates .bar ≤ 1000000
+
+-- a split of at most 10^6 kWh
+abbrev pub SplitReady : Deviations → Type 0
+SplitReady d = sum kinds (λ i. getD (d .kwh) i 0) ≤ 1000000
+
+pub record UnitReady (own : ℕ) (offer : Offer) (commitment : HubKwh) (u : UnitRecord) (energy : HubGrains) : Type 0 where
+  pub own-use : own ≤ 2000
+  pub offered : offerHolds offer ≡ true
+  pub committed : commitment .0 ≤ 1000000
+  pub in-range : UnitInRange u
+  pub allocated : energy .0 ≤ 80000000000
+
+-- for the code: the amounts of place k, by what was taken out of the sheet and the record, and the ranges that they rest on
+abbrev pub placeAmounts : Rates → ℕ → List ℕ → List Offer → List HubKwh → List UnitRecord → List HubGrains → ℕ → ℕ → Amounts
+placeAmounts rates units own offers commitments unit energy drawn k =
+    cond (memberAt units k)
+    (amountsOf rates (getD own k 0) (getD offers k pastOffer) (getD commitments k (record { 0 = 0 })) (getD unit k pastUnit)
+    (getD energy k (record { 0 = 0 })) (cond (isLowest units k) drawn 0))
+    noAmounts
+
+abbrev pub UnitsReady : ℕ → List ℕ → List Offer → List HubKwh → List UnitRecord → List HubGrains → Type 0
+UnitsReady units own offers commitments unit energy =
+    (k : ℕ) → memberAt units k ≡ true
+    → UnitReady (getD own k 0) (getD offers k pastOffer) (getD commitments k (record { 0 = 0 })) (getD unit k pastUnit)
+    (getD energy k (record { 0 = 0 }))
