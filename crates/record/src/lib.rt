@@ -1,6 +1,6 @@
 // The hour record: its type, its reader, how a span's kind counts, and the test of the spans' minutes.
 ghost use mathlib.Core.Path.{_≡_};
-ghost use Prim.Native.Nat.{_+_, _*_, _^_, _≤_, _<_};
+ghost use Prim.Native.Nat.{_^_, _≤_, _<_};
 ghost use lib.ListN.{getD};
 ghost use lib.Dec.{eqb};
 ghost use Rattle.finite.specs.Finite.{tabulate};

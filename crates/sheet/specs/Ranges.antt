@@ -4,7 +4,8 @@ use mathlib.Core.Bool.{Bool, true, cond, _&&_}
 use mathlib.Core.List.{List, []}
 use lib.Dec.{leb}
 use lib.ListN.{getD}
-use Rattle.finite.specs.Finite.{every}
+use Rattle.finite.specs.Finite.{every, tabulate}
+use Rattle.energy.specs.declared.GrossKwh.{GrossKwh}
 use Rattle.units.specs.Units.{memberAt}
 use Rattle.offer.specs.declared.Offer.{Offer}
 use Rattle.offer.specs.Offer.{offerHolds, pastOffer}
@@ -26,6 +27,10 @@ unitAt unit k = getD unit k pastUnit
 
 abbrev pub offerAt : UnitSheet → ℕ → Offer
 offerAt u h = getD (u .offers) h pastOffer
+
+-- each place's monthly practical power
+unfoldable pub monthlyOf : Sheet → List GrossKwh
+monthlyOf s = tabulate 8 (λ k. unitAt (s .unit) k .monthly)
 
 unfoldable pub unitHolds : UnitSheet → Bool
 unitHolds u =

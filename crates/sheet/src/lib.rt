@@ -11,7 +11,7 @@ ghost use Rattle.lines.specs.Cells.{lineIn, Shows};
 ghost use Rattle.sheet.specs.Limits.{lastDay};
 ghost use Rattle.sheet.specs.Rows.{headRows, unitRows, offerRow, endRow, rowAt, dueRow, readLines};
 ghost use Rattle.sheet.specs.Day.{noUnit, noSheet, offerBy, unitBy, placeBy, sheetBy, readSheet};
-ghost use Rattle.sheet.specs.Ranges.{offerAt, unitHolds, placeHolds, unitsHold, dateHolds, ratesHold, cpfHolds, sheetHolds};
+ghost use Rattle.sheet.specs.Ranges.{offerAt, monthlyOf, unitHolds, placeHolds, unitsHold, dateHolds, ratesHold, cpfHolds, sheetHolds};
 use energy::GrossKwh;
 use energy::HubKwh;
 use lines::Cursor;
@@ -312,6 +312,21 @@ pub fn read_sheet(text: &[u8], start: u64) -> SheetRead
         answer: lines::answer_of(at, c),
         sheet: no_sheet(),
     }
+}
+
+// Each unit's monthly practical power, which a blank line of an hour record stands for.
+pub fn monthly_of(sheet: Sheet) -> [GrossKwh; 8]
+    ensures { λ r. ⌜ r ≡ monthlyOf sheet ⌝ }
+{
+    let mut monthly = [GrossKwh(0); 8];
+    let mut k: usize = 0;
+    while k < 8 {
+        let u = sheet.unit[k];
+        let power = u.monthly;
+        monthly[k] = power;
+        k += 1;
+    }
+    monthly
 }
 
 // Whether a unit's values keep their ranges and orders.

@@ -4,7 +4,6 @@ use energy::GrossKwh;
 use libc::STDOUT_FILENO;
 use lines::ReadAnswer;
 use lines::TextRefusal;
-use sheet::Sheet;
 
 fn say(words: &[u8]) {
     io::write_all(STDOUT_FILENO, words);
@@ -22,17 +21,6 @@ fn say_refusal(refusal: TextRefusal) {
     say(b"\n");
 }
 
-fn monthly_of(sheet: Sheet) -> [GrossKwh; 8] {
-    let mut monthly = [GrossKwh(0); 8];
-    let mut k: usize = 0;
-    while k < 8 {
-        let u = sheet.unit[k];
-        monthly[k] = u.monthly;
-        k += 1;
-    }
-    monthly
-}
-
 // A record at a place.
 fn record_at(name: &[u8], text: &[u8], at: u64, units: u64, monthly: [GrossKwh; 8]) {
     say(name);
@@ -40,7 +28,7 @@ fn record_at(name: &[u8], text: &[u8], at: u64, units: u64, monthly: [GrossKwh; 
     say_number(at);
     let read = record::read_record(text, at, units, monthly);
     let answer = read.answer;
-    let found = read.record;
+    let found = read.read;
     match answer {
         ReadAnswer::Read(place) => {
             say(b" read ");
@@ -95,7 +83,7 @@ fn sheet_of(name: &[u8], text: &[u8]) {
             say(b" read ");
             say_number(place);
             say(b"\n");
-            records_of(name, text, place as usize, found.units, monthly_of(found));
+            records_of(name, text, place as usize, found.units, sheet::monthly_of(found));
         }
         ReadAnswer::Refused(refusal) => {
             say_refusal(refusal);

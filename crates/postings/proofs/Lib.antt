@@ -1,0 +1,6 @@
+pub mod Steps
+pub mod Rows
+pub mod Counted
+pub mod Totals
+pub mod Scan
+pub mod Posted

@@ -1,0 +1,183 @@
+// Postings: the count and the scan of those up to it, and the postings of one call.
+ghost use mathlib.Core.Path.{_≡_};
+ghost use Prim.Native.Nat.{_+_, _≤_, _<_, min};
+ghost use lib.IntN.{natAbs, _-ℤ_};
+ghost use lib.ListN.{getD};
+ghost use lib.Seq.{paste};
+ghost use Rattle.state.specs.Sizes.{places, items};
+ghost use Rattle.state.specs.Ranges.{mostAmount, ItemsWithin, AmountsWithin};
+ghost use Rattle.postings.specs.Journal.{noPosting, countHolds, coveredBy, isOf, scannedWith, scannedNone};
+ghost use Rattle.postings.specs.Plan.{unitPostings, planRows, planOf, rowOf};
+use settlement::Amounts;
+
+// An amount posted for a unit's item in an hour, in Rial. Hour, unit and item are counted from 1.
+pub struct Posting {
+    pub hour: u64,
+    pub unit: u64,
+    pub item: u64,
+    pub amount: i64,
+}
+
+// Whether the postings passed are within their bound, and what those of a unit and item add up to.
+pub struct Scanned {
+    pub good: bool,
+    pub sum: i64,
+}
+
+// The postings of one call in their order, then none.
+pub struct Plan {
+    pub row: [Posting; 40],
+}
+
+// Whether a count keeps to the list and to 100,000.
+pub fn count_holds(count: u64, len: usize) -> bool
+    ensures { λ r. ⌜ r ≡ countHolds count len ⌝ }
+{
+    if count > (len as u64) {
+        return false;
+    }
+    count <= 100000
+}
+
+// The lesser of two numbers.
+fn least(a: u64, b: u64) -> u64
+    ensures { λ r. ⌜ r ≡ min a b ⌝ }
+{
+    if a < b { a } else { b }
+}
+
+// How many postings are looked at.
+pub fn covered(count: u64, len: usize) -> usize
+    ensures { λ r. ⌜ r ≡ coveredBy count len ⌝ }
+{
+    least(least(count, len as u64), 100000) as usize
+}
+
+pub fn no_posting() -> Posting
+    ensures { λ r. ⌜ r ≡ noPosting ⌝ }
+{
+    Posting {
+        hour: 0,
+        unit: 0,
+        item: 0,
+        amount: 0,
+    }
+}
+
+// Whether a posting is that of a unit and an item.
+fn is_of(x: Posting, unit: u64, item: u64) -> bool
+    ensures { λ r. ⌜ r ≡ isOf x unit item ⌝ }
+{
+    if x.unit == unit {
+        return x.item == item;
+    }
+    false
+}
+
+pub fn scanned_none() -> Scanned
+    ensures { λ r. ⌜ r ≡ scannedNone ⌝ }
+{
+    Scanned { good: true, sum: 0 }
+}
+
+// One posting more.
+pub fn scanned_with(s: Scanned, x: Posting, unit: u64, item: u64) -> Scanned
+    ensures { λ r. ⌜ r ≡ scannedWith s x unit item ⌝ }
+{
+    let amount = x.amount;
+    let sum = s.sum;
+    if !s.good {
+        return s;
+    }
+    if !state::within(amount, 1000000000000) {
+        return Scanned {
+            good: false,
+            sum: sum,
+        };
+    }
+    if !is_of(x, unit, item) {
+        return s;
+    }
+    if !state::within(sum, 99999000000000000) {
+        return s;
+    }
+    Scanned {
+        good: true,
+        sum: sum + amount,
+    }
+}
+
+// The new amount less the old one.
+fn difference(new: i64, old: i64) -> i64
+    requires { ⌜ (natAbs new ≤ mostAmount) × (natAbs old ≤ mostAmount) ⌝ }
+    ensures { λ r. ⌜ r ≡ new -ℤ old ⌝ }
+{
+    new - old
+}
+
+// The rows with the postings of the unit of place k from row `at` on.
+fn with_unit(
+    row: [Posting; 40],
+    at: usize,
+    hour: u64,
+    k: usize,
+    old: Amounts,
+    new: Amounts,
+) -> [Posting; 40]
+    requires { ⌜ (at + items ≤ planRows) × (k < places) × ItemsWithin old × ItemsWithin new ⌝ }
+    ensures { λ r. ⌜ r ≡ paste row at (unitPostings hour k old new) items ⌝ }
+{
+    let unit = k as u64 + 1;
+    let mut rows = row;
+    let mut i: usize = 0;
+    while i < 5 {
+        let amount = difference(new.item[i], old.item[i]);
+        rows[at + i] = Posting {
+            hour: hour,
+            unit: unit,
+            item: i as u64 + 1,
+            amount: amount,
+        };
+        i += 1;
+    }
+    rows
+}
+
+// The postings of a call for an hour of 1 to 24: for each unit of the plant and each item, the new amount less the old one.
+pub fn plan_of(hour: u64, units: u64, old: [Amounts; 8], new: [Amounts; 8]) -> Plan
+    requires { ⌜ AmountsWithin units old × AmountsWithin units new ⌝ }
+    ensures { λ r. ⌜ r ≡ planOf hour units old new ⌝ }
+{
+    let mut row = [no_posting(); 40];
+    let mut at: usize = 0;
+    let mut k: usize = 0;
+    while k < 8 {
+        if units::member_at(units, k) {
+            let before = old[k];
+            let after = new[k];
+            let next = with_unit(row, at, hour, k, before, after);
+            row = next;
+            at += 5;
+        }
+        k += 1;
+    }
+    Plan { row: row }
+}
+
+// The posting of a row, none past the last row.
+fn row_at(row: [Posting; 40], k: usize) -> Posting
+    ensures { λ r. ⌜ r ≡ getD row k noPosting ⌝ }
+{
+    if k < 40 {
+        return row[k];
+    }
+    no_posting()
+}
+
+// Row k of a plan, none past its end.
+pub fn row_of(plan: Plan, k: usize) -> Posting
+    ensures { λ r. ⌜ r ≡ rowOf plan k ⌝ }
+{
+    let row = plan.row;
+    row_at(row, k)
+}

@@ -1,0 +1,7 @@
+pub mod Bounds
+pub mod Entries
+pub mod Marks
+pub mod Empty
+pub mod Writing
+pub mod InRange
+pub mod Kept

@@ -1,0 +1,315 @@
+// The book: how it is read and written, and what refusal 12 asks of it. Hours and places are counted from 0 here.
+ghost use mathlib.Core.Path.{_≡_};
+ghost use Prim.Native.Nat.{_^_, _<_};
+ghost use Rattle.state.specs.Sizes.{hours, places};
+ghost use Rattle.state.specs.Book.{noGrains, pastAmounts, commitmentAt, markAt, energyAt, amountsAt, hourCommitments, hourAmounts, emptyBook, noResult, withCommitment, stored, withHour};
+ghost use Rattle.state.specs.Ranges.{within as «is_within», limitOf, limitAt, placeHolds, commitmentsHold, marksHold, energiesHold, itemsHold, amountsHold, bookHolds};
+use energy::HubGrains;
+use energy::HubKwh;
+use offer::Offer;
+use settlement::Amounts;
+use settlement::HourResult;
+use sheet::Sheet;
+use sheet::UnitSheet;
+
+// Hour h and place k, which is that of unit k + 1, stand at 8 * h + k. Marks: 0 open, 1 settled.
+pub struct Book {
+    pub commitment: [HubKwh; 192],
+    pub mark: [u64; 24],
+    pub energy: [HubGrains; 192],
+    pub amounts: [Amounts; 192],
+}
+
+// No commitments, all hours open.
+pub fn empty_book() -> Book
+    ensures { λ r. ⌜ r ≡ emptyBook ⌝ }
+{
+    let none = Amounts { item: [0i64; 5] };
+    Book {
+        commitment: [HubKwh(0); 192],
+        mark: [0u64; 24],
+        energy: [HubGrains(0); 192],
+        amounts: [none; 192],
+    }
+}
+
+// What a void stores: no energy, no amounts.
+pub fn no_result() -> HourResult
+    ensures { λ r. ⌜ r ≡ noResult ⌝ }
+{
+    let none = Amounts { item: [0i64; 5] };
+    HourResult {
+        energy: [HubGrains(0); 8],
+        amounts: [none; 8],
+    }
+}
+
+pub fn commitment_at(book: Book, h: usize, k: usize) -> HubKwh
+    requires { ⌜ (h < hours) × (k < places) ⌝ }
+    ensures { λ r. ⌜ r ≡ commitmentAt book h k ⌝ }
+{
+    book.commitment[8 * h + k]
+}
+
+pub fn mark_at(book: Book, h: usize) -> u64
+    requires { ⌜ h < hours ⌝ }
+    ensures { λ r. ⌜ r ≡ markAt book h ⌝ }
+{
+    book.mark[h]
+}
+
+pub fn energy_at(book: Book, h: usize, k: usize) -> HubGrains
+    requires { ⌜ (h < hours) × (k < places) ⌝ }
+    ensures { λ r. ⌜ r ≡ energyAt book h k ⌝ }
+{
+    book.energy[8 * h + k]
+}
+
+pub fn amounts_at(book: Book, h: usize, k: usize) -> Amounts
+    requires { ⌜ (h < hours) × (k < places) ⌝ }
+    ensures { λ r. ⌜ r ≡ amountsAt book h k ⌝ }
+{
+    book.amounts[8 * h + k]
+}
+
+// An hour's commitments, by place.
+pub fn hour_commitments(book: Book, h: usize) -> [HubKwh; 8]
+    requires { ⌜ h < hours ⌝ }
+    ensures { λ r. ⌜ r ≡ hourCommitments book h ⌝ }
+{
+    let mut row = [HubKwh(0); 8];
+    let mut k: usize = 0;
+    while k < 8 {
+        let kwh = book.commitment[8 * h + k];
+        row[k] = kwh;
+        k += 1;
+    }
+    row
+}
+
+// An hour's amounts, by place.
+pub fn hour_amounts(book: Book, h: usize) -> [Amounts; 8]
+    requires { ⌜ h < hours ⌝ }
+    ensures { λ r. ⌜ r ≡ hourAmounts book h ⌝ }
+{
+    let none = Amounts { item: [0i64; 5] };
+    let mut row = [none; 8];
+    let mut k: usize = 0;
+    while k < 8 {
+        let amounts = book.amounts[8 * h + k];
+        row[k] = amounts;
+        k += 1;
+    }
+    row
+}
+
+// The book with one commitment replaced.
+pub fn with_commitment(book: Book, h: usize, k: usize, kwh: HubKwh) -> Book
+    requires { ⌜ (h < hours) × (k < places) ⌝ }
+    ensures { λ r. ⌜ r ≡ withCommitment book h k kwh ⌝ }
+{
+    let mut b = book;
+    b.commitment[8 * h + k] = kwh;
+    b
+}
+
+// The energies with those of the plant's units in hour h replaced.
+fn stored_energies(
+    energy: [HubGrains; 192],
+    h: usize,
+    units: u64,
+    new: [HubGrains; 8],
+) -> [HubGrains; 192]
+    requires { ⌜ h < hours ⌝ }
+    ensures { λ r. ⌜ r ≡ stored noGrains h units new energy ⌝ }
+{
+    let mut kept = energy;
+    let mut k: usize = 0;
+    while k < 8 {
+        if units::member_at(units, k) {
+            let grains = new[k];
+            kept[8 * h + k] = grains;
+        }
+        k += 1;
+    }
+    kept
+}
+
+// The amounts with those of the plant's units in hour h replaced.
+fn stored_amounts(
+    amounts: [Amounts; 192],
+    h: usize,
+    units: u64,
+    new: [Amounts; 8],
+) -> [Amounts; 192]
+    requires { ⌜ h < hours ⌝ }
+    ensures { λ r. ⌜ r ≡ stored pastAmounts h units new amounts ⌝ }
+{
+    let mut kept = amounts;
+    let mut k: usize = 0;
+    while k < 8 {
+        if units::member_at(units, k) {
+            let item = new[k];
+            kept[8 * h + k] = item;
+        }
+        k += 1;
+    }
+    kept
+}
+
+// The book with an hour's mark and the energies and amounts of the plant's units replaced.
+pub fn with_hour(book: Book, h: usize, mark: u64, units: u64, result: HourResult) -> Book
+    requires { ⌜ h < hours ⌝ }
+    ensures { λ r. ⌜ r ≡ withHour book h mark units result ⌝ }
+{
+    let mut b = book;
+    b.mark[h] = mark;
+    let energy = book.energy;
+    let new_energy = result.energy;
+    b.energy = stored_energies(energy, h, units, new_energy);
+    let amounts = book.amounts;
+    let new_amounts = result.amounts;
+    b.amounts = stored_amounts(amounts, h, units, new_amounts);
+    b
+}
+
+// Whether an amount lies between -most and most.
+pub fn within(amount: i64, most: u64) -> bool
+    requires { ⌜ most < 2 ^ 63 ⌝ }
+    ensures { λ r. ⌜ r ≡ «is_within» amount most ⌝ }
+{
+    let high = most as i64;
+    if amount > high {
+        return false;
+    }
+    amount >= -high
+}
+
+// What a commitment may not exceed: the offer's last quantity, 0 outside the plant.
+pub fn limit_of(member: bool, offer: Offer) -> HubKwh
+    ensures { λ r. ⌜ r ≡ limitOf member offer ⌝ }
+{
+    if member {
+        return offer::last_quantity(offer);
+    }
+    HubKwh(0)
+}
+
+// The same, by the sheet.
+pub fn limit_at(sheet: Sheet, h: usize, k: usize) -> HubKwh
+    requires { ⌜ (h < hours) × (k < places) ⌝ }
+    ensures { λ r. ⌜ r ≡ limitAt sheet h k ⌝ }
+{
+    let u = sheet.unit[k];
+    let o = u.offers[h];
+    limit_of(units::member_at(sheet.units, k), o)
+}
+
+// Whether no commitment of place k exceeds its limit.
+fn place_holds(member: bool, u: UnitSheet, commitment: [HubKwh; 192], k: usize) -> bool
+    requires { ⌜ k < places ⌝ }
+    ensures { λ r. ⌜ r ≡ placeHolds member u commitment k ⌝ }
+{
+    let mut h: usize = 0;
+    while h < 24 {
+        let o = u.offers[h];
+        let kwh = commitment[8 * h + k];
+        let limit = limit_of(member, o);
+        if kwh.0 > limit.0 {
+            return false;
+        }
+        h += 1;
+    }
+    true
+}
+
+fn commitments_hold(units: u64, unit: [UnitSheet; 8], commitment: [HubKwh; 192]) -> bool
+    ensures { λ r. ⌜ r ≡ commitmentsHold units unit commitment ⌝ }
+{
+    let mut k: usize = 0;
+    while k < 8 {
+        let u = unit[k];
+        if !place_holds(units::member_at(units, k), u, commitment, k) {
+            return false;
+        }
+        k += 1;
+    }
+    true
+}
+
+// Whether each hour is marked open or settled.
+fn marks_hold(mark: [u64; 24]) -> bool
+    ensures { λ r. ⌜ r ≡ marksHold mark ⌝ }
+{
+    let mut h: usize = 0;
+    while h < 24 {
+        if mark[h] > 1 {
+            return false;
+        }
+        h += 1;
+    }
+    true
+}
+
+fn energies_hold(energy: [HubGrains; 192]) -> bool
+    ensures { λ r. ⌜ r ≡ energiesHold energy ⌝ }
+{
+    let mut at: usize = 0;
+    while at < 192 {
+        let grains = energy[at];
+        if grains.0 > 80000000000 {
+            return false;
+        }
+        at += 1;
+    }
+    true
+}
+
+// Whether a unit's amounts in an hour are within their bound.
+fn items_hold(amounts: Amounts) -> bool
+    ensures { λ r. ⌜ r ≡ itemsHold amounts ⌝ }
+{
+    let mut i: usize = 0;
+    while i < 5 {
+        if !within(amounts.item[i], 100000000000) {
+            return false;
+        }
+        i += 1;
+    }
+    true
+}
+
+fn amounts_hold(amounts: [Amounts; 192]) -> bool
+    ensures { λ r. ⌜ r ≡ amountsHold amounts ⌝ }
+{
+    let mut j: usize = 0;
+    while j < 192 {
+        let a = amounts[j];
+        if !items_hold(a) {
+            return false;
+        }
+        j += 1;
+    }
+    true
+}
+
+// Whether the book keeps its ranges: refusal 12 where it does not.
+pub fn book_holds(sheet: Sheet, book: Book) -> bool
+    ensures { λ r. ⌜ r ≡ bookHolds sheet book ⌝ }
+{
+    let unit = sheet.unit;
+    let commitment = book.commitment;
+    if !commitments_hold(sheet.units, unit, commitment) {
+        return false;
+    }
+    let mark = book.mark;
+    if !marks_hold(mark) {
+        return false;
+    }
+    let energy = book.energy;
+    if !energies_hold(energy) {
+        return false;
+    }
+    let amounts = book.amounts;
+    amounts_hold(amounts)
+}
