@@ -1,0 +1,14 @@
+-- The parts are the definition's.
+-- Assumes nothing.
+use borrow.Author.Needs.{needs}
+use Rattle.book.proofs.changed.Statement.{statement}
+use Rattle.book.proofs.changed.Tie as tie
+
+no-plan-requires : tie.Need-no-plan-requires
+no-plan-requires c κs = search needs
+
+returns : tie.Need-returns
+returns c = rw (c .no-plan .ensures)
+
+pub changed-spec : {M : Type 1} → statement M
+changed-spec = tie.close (tie.spec no-plan-requires returns)

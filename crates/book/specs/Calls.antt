@@ -1,0 +1,304 @@
+-- The calls on the book and the journal (01, Book and journal): the rows (refusal, condition) of each call in the order in which they are
+-- checked, and what an accepted call changes and posts.
+use Prim.Native.Nat.{ℕ, _+_, _-_, _*_, min}
+use mathlib.Core.Bool.{Bool, true, false, cond, not, _&&_, _||_}
+use mathlib.Core.List.{List, [], _∷_, _++_}
+use lib.Dec.{ltb, leb, eqb}
+use lib.ListN.{length, take as firstOf}
+use lib.Seq.{paste}
+use Rattle.energy.specs.declared.HubKwh.{HubKwh}
+use Rattle.units.specs.Units.{isMember, unitCount}
+use Rattle.lines.specs.declared.ReadAnswer.{ReadAnswer}
+use Rattle.lines.specs.declared.ReadAnswer.the-variants.{Read as placeRead, Refused as textRefused}
+use Rattle.sheet.specs.declared.Sheet.{Sheet}
+use Rattle.lines.specs.declared.TextRefusal.the-variants.{TextEnds}
+use Rattle.sheet.specs.Ranges.{sheetHolds, monthlyOf}
+use Rattle.record.specs.declared.Record.{Record}
+use Rattle.record.specs.Hour.{noRecord, readRecord}
+use Rattle.record.specs.Spans.{minutesHold}
+use Rattle.settlement.specs.declared.HourResult.{HourResult}
+use Rattle.settlement.specs.Hour.{hourResult}
+use Rattle.settlement.specs.Refusals.{readingsHold, proportionsHold}
+use Rattle.state.specs.declared.Book.{Book}
+use Rattle.state.specs.Book.{commitmentAt, markAt, hourCommitments, hourAmounts, withCommitment, withHour, noResult, emptyBook, openMark, settledMark}
+use Rattle.state.specs.Ranges.{limitAt, bookHolds}
+use Rattle.postings.specs.declared.Plan.{Plan}
+use Rattle.postings.specs.declared.Posting.{Posting}
+use Rattle.postings.specs.Journal.{countHolds, postedHold}
+use Rattle.postings.specs.Plan.{planOf, padded}
+use Rattle.book.specs.declared.Refusal.{Refusal}
+use Rattle.book.specs.declared.Refusal.the-variants.{Text, SheetRange, HourRange, UnitUnknown, BookRange, HourSettled, NoAmount, OverOffer, HeldLess, SameUnit, Minutes, Readings, Proportions, HourStands, HourOpen, NoPlaces}
+use Rattle.book.specs.declared.Verdict.{Verdict}
+use Rattle.book.specs.declared.Verdict.the-variants.{Accepted as passes, Refused as fails}
+use Rattle.book.specs.declared.Answer.{Answer}
+use Rattle.book.specs.declared.Answer.the-variants.{Accepted, Posted, Refused}
+use Rattle.book.specs.declared.Request.{Request}
+use Rattle.book.specs.declared.Decision.{Decision}
+use Rattle.book.specs.declared.Outcome.{Outcome}
+use Rattle.book.specs.Ledger.{Call, take, release, move, settle, restate, void, Reply}
+use Rattle.book.specs.Numbers.{replyOf}
+
+-- a row of the table of refusals
+pub record Row : Type 0 where
+  pub refusal : Refusal
+  pub holds : Bool
+
+abbrev pub row : Refusal → Bool → Row
+row r b = record { refusal = r; holds = b }
+
+-- "Calls check in the table's order": the first condition that holds is the refusal
+unfoldable pub verdict : List Row → Verdict
+verdict [] = passes
+verdict (r ∷ rs) = cond (r .holds) (fails (r .refusal)) (verdict rs)
+
+abbrev pub badHour : ℕ → Bool
+badHour hour = ltb hour 1 || ltb 24 hour
+
+abbrev pub unknownUnits : (units from to : ℕ) → Bool
+unknownUnits units from to = not (isMember units from) || not (isMember units to)
+
+-- hours and places of the book are counted from 0
+abbrev pub heldKwh : Book → ℕ → ℕ → ℕ
+heldKwh b hour unit = commitmentAt b (hour - 1) (unit - 1) .0
+
+abbrev pub lastKwh : Sheet → ℕ → ℕ → ℕ
+lastKwh s hour unit = limitAt s (hour - 1) (unit - 1) .0
+
+abbrev pub isSettled : Book → ℕ → Bool
+isSettled b hour = eqb (markAt b (hour - 1)) settledMark
+
+-- 9 and 12, at every call; `posted` says that each posting below the count is in its range
+abbrev pub alwaysRows : Sheet → Book → (count places : ℕ) → (posted : Bool) → List Row
+alwaysRows s b count places posted =
+    row SheetRange (not (sheetHolds s)) ∷ row BookRange (not (bookHolds s b && (countHolds count places && posted))) ∷ []
+
+-- take: 10 11 20 21 22
+abbrev pub takeRows : Sheet → Book → (hour unit kwh : ℕ) → List Row
+takeRows s b hour unit kwh =
+    row HourRange (badHour hour)
+    ∷ row UnitUnknown (not (isMember (s .units) unit))
+    ∷ row HourSettled (isSettled b hour)
+    ∷ row NoAmount (eqb kwh 0)
+    ∷ row OverOffer (ltb (lastKwh s hour unit) (heldKwh b hour unit + kwh))
+    ∷ []
+
+-- release: 10 11 20 21 23
+abbrev pub releaseRows : Sheet → Book → (hour unit kwh : ℕ) → List Row
+releaseRows s b hour unit kwh =
+    row HourRange (badHour hour)
+    ∷ row UnitUnknown (not (isMember (s .units) unit))
+    ∷ row HourSettled (isSettled b hour)
+    ∷ row NoAmount (eqb kwh 0)
+    ∷ row HeldLess (ltb (heldKwh b hour unit) kwh)
+    ∷ []
+
+-- move: 10 11 24 20 21 23 22
+abbrev pub moveRows : Sheet → Book → (hour from to kwh : ℕ) → List Row
+moveRows s b hour from to kwh =
+    row HourRange (badHour hour)
+    ∷ row UnitUnknown (unknownUnits (s .units) from to)
+    ∷ row SameUnit (eqb from to)
+    ∷ row HourSettled (isSettled b hour)
+    ∷ row NoAmount (eqb kwh 0)
+    ∷ row HeldLess (ltb (heldKwh b hour from) kwh)
+    ∷ row OverOffer (ltb (lastKwh s hour to) (heldKwh b hour to + kwh))
+    ∷ []
+
+-- 42: "fewer free places, up to 100,000 in all, than five a unit"
+abbrev pub shortOf : (units count places : ℕ) → Bool
+shortOf units count places = ltb (min places 100000 - count) (5 * unitCount units)
+
+-- 1 to 4, by what was read
+abbrev pub textRows : ReadAnswer → List Row
+textRows (placeRead place) = []
+textRows (textRefused r) = row (Text r) true ∷ []
+
+-- settle: text 31 40 32 33 42; restate has 41 in the place of 40
+abbrev pub recordRows : Sheet → Record → Row → (count places : ℕ) → List Row
+recordRows s r standing count places =
+    row Minutes (not (minutesHold r (s .units)))
+    ∷ standing
+    ∷ row Readings (not (readingsHold r (s .units)))
+    ∷ row Proportions (not (proportionsHold s r))
+    ∷ row NoPlaces (shortOf (s .units) count places)
+    ∷ []
+
+-- void: 10 41 42
+abbrev pub voidRows : Sheet → Book → (hour count places : ℕ) → List Row
+voidRows s b hour count places =
+    row HourRange (badHour hour) ∷ row HourOpen (not (isSettled b hour)) ∷ row NoPlaces (shortOf (s .units) count places) ∷ []
+
+-- the rows of a request, by its kind
+unfoldable pub requestRows : Sheet → Book → Request → (count places : ℕ) → List Row
+requestRows s b q count places =
+    cond (eqb (q .kind) 1) (takeRows s b (q .hour) (q .unit) (q .kwh))
+    (cond (eqb (q .kind) 2) (releaseRows s b (q .hour) (q .unit) (q .kwh))
+    (cond (eqb (q .kind) 3) (moveRows s b (q .hour) (q .unit) (q .to) (q .kwh))
+    (cond (eqb (q .kind) 4)
+    (textRows (q .answer) ++ recordRows s (q .read) (row HourStands (isSettled b (q .read .hour))) count places)
+    (cond (eqb (q .kind) 5)
+    (textRows (q .answer) ++ recordRows s (q .read) (row HourOpen (not (isSettled b (q .read .hour)))) count places)
+    (voidRows s b (q .hour) count places)))))
+
+abbrev pub rowsOf : Sheet → Book → Request → (count places : ℕ) → Bool → List Row
+rowsOf s b q count places posted = alwaysRows s b count places posted ++ requestRows s b q count places
+
+-- a plan without postings
+abbrev pub noPlan : Plan
+noPlan = record { row = padded [] }
+
+-- a refusal "returns its number (..); book, journal, count and text place are unchanged"
+abbrev pub refusedWith : Book → (count start : ℕ) → Refusal → Decision
+refusedWith b count start r = record { plan = noPlan; at = 0; n = 0; answer = Refused r; place = start; count = count; book = b }
+
+-- "Otherwise take adds its kWh, release subtracts them, move does both": the book changes, nothing is posted
+abbrev pub changedTo : Book → (count : ℕ) → Decision
+changedTo b count = record { plan = noPlan; at = 0; n = 0; answer = Accepted; place = 0; count = count; book = b }
+
+abbrev pub withHeld : Book → (hour unit kwh : ℕ) → Book
+withHeld b hour unit kwh = withCommitment b (hour - 1) (unit - 1) (record { 0 = kwh })
+
+-- "settle, restate and void append five per unit (..) and report how many": each amount's new value less its old one
+abbrev pub postedWith : Sheet → Book → (hour mark : ℕ) → HourResult → (place count : ℕ) → Decision
+postedWith s b hour mark result place count =
+    let n = 5 * unitCount (s .units) in
+    record {
+      plan = planOf hour (s .units) (hourAmounts b (hour - 1)) (result .amounts);
+      at = count;
+      n = n;
+      answer = Posted n;
+      place = place;
+      count = count + n;
+      book = withHour b (hour - 1) mark (s .units) result;
+    }
+
+-- the text place after a record that was read
+abbrev pub placeAfter : ℕ → ReadAnswer → ℕ
+placeAfter start (placeRead place) = place
+placeAfter start (textRefused r) = start
+
+-- an accepted settle or restate: the hour's energies and amounts are those of its record
+abbrev pub recordedAt : Sheet → Book → Record → (place count : ℕ) → Decision
+recordedAt s b r place count =
+    postedWith s b (r .hour) settledMark (hourResult s r (hourCommitments b (r .hour - 1))) place count
+
+abbrev pub recordedIn : Sheet → Book → Request → (count : ℕ) → Decision
+recordedIn s b q count = recordedAt s b (q .read) (placeAfter (q .start) (q .answer)) count
+
+-- an accepted call, by its kind
+unfoldable pub acceptedIn : Sheet → Book → Request → (count : ℕ) → Decision
+acceptedIn s b q count =
+    cond (eqb (q .kind) 1) (changedTo (withHeld b (q .hour) (q .unit) (heldKwh b (q .hour) (q .unit) + q .kwh)) count)
+    (cond (eqb (q .kind) 2) (changedTo (withHeld b (q .hour) (q .unit) (heldKwh b (q .hour) (q .unit) - q .kwh)) count)
+    (cond (eqb (q .kind) 3)
+    (changedTo
+    (withHeld (withHeld b (q .hour) (q .unit) (heldKwh b (q .hour) (q .unit) - q .kwh)) (q .hour) (q .to) (heldKwh b (q .hour) (q .to) + q .kwh))
+    count)
+    (cond (eqb (q .kind) 4) (recordedIn s b q count)
+    (cond (eqb (q .kind) 5) (recordedIn s b q count) (postedWith s b (q .hour) openMark noResult 0 count)))))
+
+abbrev pub byVerdict : Verdict → Decision → (Refusal → Decision) → Decision
+byVerdict passes d f = d
+byVerdict (fails r) d f = f r
+
+-- what a request comes to, with `count` postings in a list of so many places
+unfoldable pub decided : Sheet → Book → Request → (count places : ℕ) → Bool → Decision
+decided s b q count places posted =
+    byVerdict (verdict (rowsOf s b q count places posted)) (acceptedIn s b q count) (refusedWith b count (q .start))
+
+-- the same part by part, as the code goes: 12, the rows of a kind, and of a record that was read
+abbrev pub bookFits : Sheet → Book → (count places : ℕ) → Bool → Bool
+bookFits s b count places posted = bookHolds s b && (countHolds count places && posted)
+
+abbrev pub requestDecided : Sheet → Book → Request → (count places : ℕ) → Decision
+requestDecided s b q count places = byVerdict (verdict (requestRows s b q count places)) (acceptedIn s b q count) (refusedWith b count (q .start))
+
+unfoldable pub takeDecided : Sheet → Book → (count start hour unit kwh : ℕ) → Decision
+takeDecided s b count start hour unit kwh =
+    byVerdict (verdict (takeRows s b hour unit kwh)) (changedTo (withHeld b hour unit (heldKwh b hour unit + kwh)) count) (refusedWith b count start)
+
+unfoldable pub releaseDecided : Sheet → Book → (count start hour unit kwh : ℕ) → Decision
+releaseDecided s b count start hour unit kwh =
+    byVerdict (verdict (releaseRows s b hour unit kwh)) (changedTo (withHeld b hour unit (heldKwh b hour unit - kwh)) count) (refusedWith b count start)
+
+unfoldable pub moveDecided : Sheet → Book → (count start hour from to kwh : ℕ) → Decision
+moveDecided s b count start hour from to kwh =
+    byVerdict (verdict (moveRows s b hour from to kwh))
+    (changedTo (withHeld (withHeld b hour from (heldKwh b hour from - kwh)) hour to (heldKwh b hour to + kwh)) count)
+    (refusedWith b count start)
+
+unfoldable pub voidDecided : Sheet → Book → (count start hour places : ℕ) → Decision
+voidDecided s b count start hour places =
+    byVerdict (verdict (voidRows s b hour count places)) (postedWith s b hour openMark noResult 0 count) (refusedWith b count start)
+
+unfoldable pub recordDecided : Sheet → Book → (count start : ℕ) → Record → (place : ℕ) → Refusal → Bool → (places : ℕ) → Decision
+recordDecided s b count start r place standing stands places =
+    byVerdict (verdict (recordRows s r (row standing stands) count places)) (recordedAt s b r place count) (refusedWith b count start)
+
+unfoldable pub settleDecided : Sheet → Book → Request → (count places : ℕ) → Decision
+settleDecided s b q count places =
+    byVerdict (verdict (textRows (q .answer) ++ recordRows s (q .read) (row HourStands (isSettled b (q .read .hour))) count places)) (recordedIn s b q count) (refusedWith b count (q .start))
+
+unfoldable pub restateDecided : Sheet → Book → Request → (count places : ℕ) → Decision
+restateDecided s b q count places =
+    byVerdict (verdict (textRows (q .answer) ++ recordRows s (q .read) (row HourOpen (not (isSettled b (q .read .hour)))) count places)) (recordedIn s b q count) (refusedWith b count (q .start))
+
+-- what is left of a decision once its postings are appended
+abbrev pub outcomeOf : Decision → Outcome
+outcomeOf d = record { answer = d .answer; place = d .place; count = d .count; book = d .book }
+
+-- the book, the count and the list of places between two calls
+pub record State : Type 0 where
+  pub book : Book
+  pub count : ℕ
+  pub journal : List Posting
+
+pub record Moved : Type 0 where
+  pub reply : Reply
+  pub state : State
+
+-- a request carried out: the postings go to the places from the count on, and every other place keeps its contents
+unfoldable pub carriedOut : Sheet → State → Request → Moved
+carriedOut s st q =
+    let d = decided s (st .book) q (st .count) (length (st .journal)) (postedHold (firstOf (st .count) (st .journal))) in
+    record {
+      reply = replyOf (d .answer) (d .place);
+      state = record { book = d .book; count = d .count; journal = paste (st .journal) (d .at) (d .plan .row) (d .n) };
+    }
+
+-- the requests of the calls; one without a text has a reading that is refused
+abbrev pub unread : ReadAnswer
+unread = textRefused (TextEnds 0)
+
+abbrev pub plainRequest : (kind hour unit to kwh : ℕ) → Request
+plainRequest kind hour unit to kwh =
+    record { kind = kind; hour = hour; unit = unit; to = to; kwh = kwh; start = 0; answer = unread; read = noRecord }
+
+abbrev pub recordRequest : Sheet → (kind : ℕ) → List ℕ → (start : ℕ) → Request
+recordRequest s kind text start =
+    let r = readRecord text start (s .units) (monthlyOf s) in
+    record { kind = kind; hour = 0; unit = 0; to = 0; kwh = 0; start = start; answer = r .answer; read = r .read }
+
+abbrev pub requestOf : Sheet → Call → Request
+requestOf s (take hour unit kwh) = plainRequest 1 hour unit 0 kwh
+requestOf s (release hour unit kwh) = plainRequest 2 hour unit 0 kwh
+requestOf s (move hour from to kwh) = plainRequest 3 hour from to kwh
+requestOf s (settle text start) = recordRequest s 4 text start
+requestOf s (restate text start) = recordRequest s 5 text start
+requestOf s (void hour) = plainRequest 6 hour 0 0 0
+
+pub record Ran : Type 0 where
+  pub replies : List Reply
+  pub state : State
+
+-- a list of calls, one after the other: "each later one [gets] what the call before returned or left"
+unfoldable pub ranFrom : Sheet → State → List Call → Ran
+ranFrom s st [] = record { replies = []; state = st }
+ranFrom s st (c ∷ cs) =
+    let m = carriedOut s st (requestOf s c) in
+    let r = ranFrom s (m .state) cs in
+    record { replies = m .reply ∷ r .replies; state = r .state }
+
+-- "The first gets the empty book", and the list of places has "count 0 at first"
+abbrev pub begun : List Posting → State
+begun journal = record { book = emptyBook; count = 0; journal = journal }
