@@ -116,11 +116,11 @@ module _ (sheet : Sheet) (room : ℕ) (st : State) (l : Ledger) (a : Agrees shee
         commitment = λ h k lh lk. rw (a .commitments h k lh lk) (held-back h k (every-at 8 (heldFits sheet l h) (every-at 24 (λ h. every 8 (heldFits sheet l h)) p h lh) k lk));
         mark = λ h lh. rw (a .marks h lh) (mark-small (l .standing (h + 1)));
         energy = λ h k lh lk. rw (a .energies h k lh lk)
-        (leb-true _ _ (every-at 8 (λ k. leb (energyOf sheet l (h + 1) k) 80000000000) (every-at 24 (λ h. every 8 (λ k. leb (energyOf sheet l (h + 1) k) 80000000000)) energyT h lh) k lk));
+            (leb-true _ _ (every-at 8 (λ k. leb (energyOf sheet l (h + 1) k) 80000000000) (every-at 24 (λ h. every 8 (λ k. leb (energyOf sheet l (h + 1) k) 80000000000)) energyT h lh) k lk));
         amount = λ h k i lh lk li. rw (a .amounts h k i lh lk li)
-        (leb-true _ _ (every-at 5 (λ i. leb (natAbs (amountIn sheet l (h + 1) k i)) 100000000000)
-        (every-at 8 (λ k. every 5 (λ i. leb (natAbs (amountIn sheet l (h + 1) k i)) 100000000000))
-        (every-at 24 (λ h. every 8 (λ k. every 5 (λ i. leb (natAbs (amountIn sheet l (h + 1) k i)) 100000000000))) amountsT h lh) k lk) i li));
+            (leb-true _ _ (every-at 5 (λ i. leb (natAbs (amountIn sheet l (h + 1) k i)) 100000000000)
+            (every-at 8 (λ k. every 5 (λ i. leb (natAbs (amountIn sheet l (h + 1) k i)) 100000000000))
+            (every-at 24 (λ h. every 8 (λ k. every 5 (λ i. leb (natAbs (amountIn sheet l (h + 1) k i)) 100000000000))) amountsT h lh) k lk) i li));
       } in
       and-both _ _ (book-holds-back sheet (st .book) facts)
       (and-both _ _

@@ -103,18 +103,18 @@ module _ (sheet : Sheet) (journal : List Posting) (calls : List Call) where
         agrees = agree;
         free-places = followed sheet (length journal) calls (begun journal) emptyLedger (empty-agrees sheet journal) (empty-ready sheet) .free;
         commitments = λ hour unit a b c d.
-        let x : hour - 1 + 1 ≡ hour = omega arith in
-        let y : unit - 1 + 1 ≡ unit = omega arith in
-        let z : commitmentAt (st .book) (hour - 1) (unit - 1) .0 ≡ l .commitment hour unit =
-        agree .commitments (hour - 1) (unit - 1) (omega arith) (omega arith) ∙ (ap (λ (n : ℕ). l .commitment n (unit - 1 + 1)) x ∙ ap (l .commitment hour) y) in
-        ap (λ (n : ℕ). n + gave hour unit calls replies) z ∙ held hour unit;
+            let x : hour - 1 + 1 ≡ hour = omega arith in
+            let y : unit - 1 + 1 ≡ unit = omega arith in
+            let z : commitmentAt (st .book) (hour - 1) (unit - 1) .0 ≡ l .commitment hour unit =
+            agree .commitments (hour - 1) (unit - 1) (omega arith) (omega arith) ∙ (ap (λ (n : ℕ). l .commitment n (unit - 1 + 1)) x ∙ ap (l .commitment hour) y) in
+            ap (λ (n : ℕ). n + gave hour unit calls replies) z ∙ held hour unit;
         energies = λ hour r low high e.
-        let s : l .standing hour ≡ kept r = stood hour ∙ e in
-        rw (hour-held hour low high, hour-energies hour r low high s)
-        (hour-allocated sheet r (hourHeld (l .commitment hour)) (hour-ready sheet hour r (l .commitment hour) (ready .each hour r s)));
+            let s : l .standing hour ≡ kept r = stood hour ∙ e in
+            rw (hour-held hour low high, hour-energies hour r low high s)
+            (hour-allocated sheet r (hourHeld (l .commitment hour)) (hour-ready sheet hour r (l .commitment hour) (ready .each hour r s)));
         postings = λ k i m b.
-        ap (totalOf (k + 1) (i + 1)) (agree .entries)
-        ∙ (sums-open sheet (length journal) k i m b l (run-sums sheet (length journal) k i m b calls emptyLedger (sums-close sheet (length journal) k i m b emptyLedger (total-nothing (k + 1) (i + 1) ∙ sym (sumZ-none 24 (λ h. amountIn sheet emptyLedger (h + 1) k i) (λ h lh. refl)))))
-        ∙ sumZ-same 24 (λ h. amountIn sheet l (h + 1) k i) (λ h. amountFor sheet (standing sheet calls replies (h + 1)) (reckoned calls replies (h + 1)) k i)
-        (λ h lh. λ j. amountFor sheet (stood (h + 1) j) (λ u. less (h + 1) u j) k i));
+            ap (totalOf (k + 1) (i + 1)) (agree .entries)
+            ∙ (sums-open sheet (length journal) k i m b l (run-sums sheet (length journal) k i m b calls emptyLedger (sums-close sheet (length journal) k i m b emptyLedger (total-nothing (k + 1) (i + 1) ∙ sym (sumZ-none 24 (λ h. amountIn sheet emptyLedger (h + 1) k i) (λ h lh. refl)))))
+            ∙ sumZ-same 24 (λ h. amountIn sheet l (h + 1) k i) (λ h. amountFor sheet (standing sheet calls replies (h + 1)) (reckoned calls replies (h + 1)) k i)
+            (λ h lh. λ j. amountFor sheet (stood (h + 1) j) (λ u. less (h + 1) u j) k i));
       }

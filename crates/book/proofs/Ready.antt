@@ -59,8 +59,8 @@ module _ (sheet : Sheet) (room : ℕ) where
   changed-ready l g hour o same ready =
       record {
         each = λ h r e.
-        let d : h ≡ hour → ⊥ = λ q. closed r (ap (λ (n : ℕ). stands (l .standing n)) (sym q) ∙ ap stands e) in
-        subst (λ (f : ℕ → ℕ). StandsFor sheet h r f) (sym (same h d)) (ready .each h r e);
+            let d : h ≡ hour → ⊥ = λ q. closed r (ap (λ (n : ℕ). stands (l .standing n)) (sym q) ∙ ap stands e) in
+            subst (λ (f : ℕ → ℕ). StandsFor sheet h r f) (sym (same h d)) (ready .each h r e);
       }
     where
       closed : (r : Record) → stands (l .standing hour) ≡ true → ⊥

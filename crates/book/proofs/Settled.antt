@@ -24,7 +24,7 @@ hour-ready sheet hour r f s =
     record {
       read = record { sheet-holds = s .sheet-holds; in-range = s .range };
       committed = λ k m.
-      rw (getD-tabulate {A = HubKwh} 8 (λ k. record { 0 = f (k + 1) }) k (record { 0 = 0 }) (place-lt (sheet .units) k m)) (s .committed k m);
+          rw (getD-tabulate {A = HubKwh} 8 (λ k. record { 0 = f (k + 1) }) k (record { 0 = 0 }) (place-lt (sheet .units) k m)) (s .committed k m);
     }
 
 zeros : (n i : ℕ) → getD (replicate n (pos 0)) i (pos 0) ≡ pos 0

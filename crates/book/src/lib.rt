@@ -8,13 +8,12 @@ ghost use Rattle.sheet.specs.Ranges.{sheetHolds};
 ghost use Rattle.settlement.specs.Ranges.{HourRead};
 ghost use Rattle.book.specs.Calls.{badHour, unknownUnits, shortOf, isSettled, heldKwh, lastKwh, withHeld, noPlan, refusedWith, changedTo, postedWith, takeDecided, releaseDecided, moveDecided, voidDecided, recordDecided, settleDecided, restateDecided, requestDecided, bookFits, decided, outcomeOf, plainRequest, recordRequest};
 ghost use Rattle.book.specs.Sound.{PostReady, Sound, WellRead};
-
 use energy::HubKwh;
 use lines::ReadAnswer;
 use lines::TextRefusal;
-use settlement::HourResult;
 use postings::Plan;
 use record::Record;
+use settlement::HourResult;
 use sheet::Sheet;
 use state::Book;
 
@@ -80,7 +79,7 @@ pub struct Request {
     pub read: Record,
 }
 
-// What a call comes to: n postings of the plan, appended after place `at`; the answer and the text place; the count and the book after it.
+// What a call comes to: n postings of the plan, stored from place `at` on; the answer and the text place; the count and the book after it.
 pub struct Decision {
     pub plan: Plan,
     pub at: usize,
@@ -184,7 +183,15 @@ fn with_held(book: Book, hour: u64, unit: u64, kwh: u64) -> Book
 }
 
 // take: 10 11 20 21 22.
-fn decide_take(sheet: Sheet, book: Book, count: u64, start: u64, hour: u64, unit: u64, kwh: u64) -> Decision
+fn decide_take(
+    sheet: Sheet,
+    book: Book,
+    count: u64,
+    start: u64,
+    hour: u64,
+    unit: u64,
+    kwh: u64,
+) -> Decision
     requires { ⌜ (sheetHolds sheet ≡ true) × (bookHolds sheet book ≡ true) ⌝ }
     ensures { λ r. ⌜ r ≡ takeDecided sheet book count start hour unit kwh ⌝ }
 {
@@ -208,7 +215,15 @@ fn decide_take(sheet: Sheet, book: Book, count: u64, start: u64, hour: u64, unit
 }
 
 // release: 10 11 20 21 23.
-fn decide_release(sheet: Sheet, book: Book, count: u64, start: u64, hour: u64, unit: u64, kwh: u64) -> Decision
+fn decide_release(
+    sheet: Sheet,
+    book: Book,
+    count: u64,
+    start: u64,
+    hour: u64,
+    unit: u64,
+    kwh: u64,
+) -> Decision
     ensures { λ r. ⌜ r ≡ releaseDecided sheet book count start hour unit kwh ⌝ }
 {
     if hour_bad(hour) {
@@ -231,7 +246,16 @@ fn decide_release(sheet: Sheet, book: Book, count: u64, start: u64, hour: u64, u
 }
 
 // move: 10 11 24 20 21 23 22.
-fn decide_move(sheet: Sheet, book: Book, count: u64, start: u64, hour: u64, from: u64, to: u64, kwh: u64) -> Decision
+fn decide_move(
+    sheet: Sheet,
+    book: Book,
+    count: u64,
+    start: u64,
+    hour: u64,
+    from: u64,
+    to: u64,
+    kwh: u64,
+) -> Decision
     requires { ⌜ (sheetHolds sheet ≡ true) × (bookHolds sheet book ≡ true) ⌝ }
     ensures { λ r. ⌜ r ≡ moveDecided sheet book count start hour from to kwh ⌝ }
 {
@@ -258,7 +282,15 @@ fn decide_move(sheet: Sheet, book: Book, count: u64, start: u64, hour: u64, from
     if last_kwh(sheet, hour, to) - held < kwh {
         return refused(book, count, start, Refusal::OverOffer);
     }
-    changed(with_held(with_held(book, hour, from, source - kwh), hour, to, held + kwh), count)
+    changed(
+        with_held(
+            with_held(book, hour, from, source - kwh),
+            hour,
+            to,
+            held + kwh,
+        ),
+        count,
+    )
 }
 
 // 42: fewer free places, up to 100,000 in all, than five a unit.
@@ -283,7 +315,15 @@ fn least(a: u64, b: u64) -> u64
 }
 
 // The postings of an hour whose energies and amounts become those of `result`.
-fn post_hour(sheet: Sheet, book: Book, hour: u64, mark: u64, result: HourResult, place: u64, count: u64) -> Decision
+fn post_hour(
+    sheet: Sheet,
+    book: Book,
+    hour: u64,
+    mark: u64,
+    result: HourResult,
+    place: u64,
+    count: u64,
+) -> Decision
     requires { ⌜ PostReady sheet book hour result count ⌝ }
     ensures { λ r. ⌜ r ≡ postedWith sheet book hour mark result place count ⌝ }
 {
@@ -304,7 +344,14 @@ fn post_hour(sheet: Sheet, book: Book, hour: u64, mark: u64, result: HourResult,
 }
 
 // void: 10 41 42.
-fn decide_void(sheet: Sheet, book: Book, count: u64, start: u64, hour: u64, places: usize) -> Decision
+fn decide_void(
+    sheet: Sheet,
+    book: Book,
+    count: u64,
+    start: u64,
+    hour: u64,
+    places: usize,
+) -> Decision
     requires { ⌜ (sheetHolds sheet ≡ true) × (bookHolds sheet book ≡ true) × (count ≤ 100000) ⌝ }
     ensures { λ r. ⌜ r ≡ voidDecided sheet book count start hour places ⌝ }
 {
@@ -321,7 +368,17 @@ fn decide_void(sheet: Sheet, book: Book, count: u64, start: u64, hour: u64, plac
 }
 
 // A record that was read: 31, `standing` where it holds, 32 33 42.
-fn decide_record(sheet: Sheet, book: Book, count: u64, start: u64, read: Record, place: u64, standing: Refusal, stands: bool, places: usize) -> Decision
+fn decide_record(
+    sheet: Sheet,
+    book: Book,
+    count: u64,
+    start: u64,
+    read: Record,
+    place: u64,
+    standing: Refusal,
+    stands: bool,
+    places: usize,
+) -> Decision
     requires { ⌜ (bookHolds sheet book ≡ true) × HourRead sheet read × (count ≤ 100000) ⌝ }
     ensures { λ r. ⌜ r ≡ recordDecided sheet book count start read place standing stands places ⌝ }
 {
@@ -342,7 +399,15 @@ fn decide_record(sheet: Sheet, book: Book, count: u64, start: u64, read: Record,
     }
     let hour = read.hour;
     let held = state::hour_commitments(book, (hour - 1) as usize);
-    post_hour(sheet, book, hour, 1, settlement::settle_hour(sheet, read, held), place, count)
+    post_hour(
+        sheet,
+        book,
+        hour,
+        1,
+        settlement::settle_hour(sheet, read, held),
+        place,
+        count,
+    )
 }
 
 // settle: text 31 40 32 33 42.
@@ -356,7 +421,17 @@ fn decide_settle(sheet: Sheet, book: Book, request: Request, count: u64, places:
     match answer {
         ReadAnswer::Read(place) => {
             let stands = is_settled(book, read.hour);
-            decide_record(sheet, book, count, start, read, place, Refusal::HourStands, stands, places)
+            decide_record(
+                sheet,
+                book,
+                count,
+                start,
+                read,
+                place,
+                Refusal::HourStands,
+                stands,
+                places,
+            )
         }
         ReadAnswer::Refused(refusal) => refused(book, count, start, Refusal::Text(refusal)),
     }
@@ -373,7 +448,17 @@ fn decide_restate(sheet: Sheet, book: Book, request: Request, count: u64, places
     match answer {
         ReadAnswer::Read(place) => {
             let open = !is_settled(book, read.hour);
-            decide_record(sheet, book, count, start, read, place, Refusal::HourOpen, open, places)
+            decide_record(
+                sheet,
+                book,
+                count,
+                start,
+                read,
+                place,
+                Refusal::HourOpen,
+                open,
+                places,
+            )
         }
         ReadAnswer::Refused(refusal) => refused(book, count, start, Refusal::Text(refusal)),
     }
@@ -421,7 +506,14 @@ fn book_fits(sheet: Sheet, book: Book, count: u64, places: usize, posted: bool) 
 }
 
 // What a request comes to, with `count` postings in a list of so many places; `posted` says that each of them is in its range.
-pub fn decide(sheet: Sheet, book: Book, request: Request, count: u64, places: usize, posted: bool) -> Decision
+pub fn decide(
+    sheet: Sheet,
+    book: Book,
+    request: Request,
+    count: u64,
+    places: usize,
+    posted: bool,
+) -> Decision
     requires { ⌜ WellRead sheet request ⌝ }
     ensures { λ r. ⌜ r ≡ decided sheet book request count places posted ⌝ }
 {

@@ -83,7 +83,13 @@ fn sheet_of(name: &[u8], text: &[u8]) {
             say(b" read ");
             say_number(place);
             say(b"\n");
-            records_of(name, text, place as usize, found.units, sheet::monthly_of(found));
+            records_of(
+                name,
+                text,
+                place as usize,
+                found.units,
+                sheet::monthly_of(found),
+            );
         }
         ReadAnswer::Refused(refusal) => {
             say_refusal(refusal);

@@ -40,7 +40,7 @@ loop-less : tie.Need-loop-less Inv-loop μ-loop
 loop-less c = search needs
 
 loop-again : tie.Need-loop-again Inv-loop μ-loop
-loop-again c = 
+loop-again c =
     let l = c .before .before .before .loop in (
       omega arith,
       simp length-set (l .inv .1),
@@ -49,7 +49,7 @@ loop-again c =
 
 returns : tie.Need-returns Inv-loop μ-loop
 unfolding monthlyOf
-returns c = 
+returns c =
     let l = c .before .loop in
     let f : ℕ → GrossKwh = λ k. unitAt (c .before .before .args .t1 .unit) k .monthly in
     let all : l .k ≡ 8 = omega arith in
