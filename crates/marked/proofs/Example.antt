@@ -10,30 +10,24 @@ use lib.IntN.{ℤ, pos}
 use lib.ListN.{getD}
 use Rattle.finite.specs.Finite.{sum, tabulate}
 use Rattle.energy.specs.declared.HubGrains.{HubGrains}
-use Rattle.energy.specs.Energy.{netOf, hubOf, gateOf, grainsOf, payOf}
-use Rattle.units.specs.Units.{isMember, memberAt, members, isLowest}
-use Rattle.offer.specs.declared.Offer.{Offer}
+use Rattle.energy.specs.Energy.{netOf, hubOf, grainsOf}
+use Rattle.units.specs.Units.{isMember, memberAt, isLowest}
 use Rattle.offer.specs.Modified.{priceFrom, priceAt, costTo}
 use Rattle.offer.proofs.Quick.{endFrom, endOf, costFrom, cost-quick}
 use Rattle.apportion.specs.Shares.{largest, addOnes, shares}
-use Rattle.record.specs.Spans.{countedKind, unitAt as recordUnit}
+use Rattle.record.specs.Spans.{unitAt as recordUnit}
 use Rattle.allocation.specs.Fill.{grainsAt, better, best}
 use Rattle.allocation.specs.Allocation.{netEnergy, plantEnergy, realSum, excess, weightAt, excessShares, ceilingAt, ceilings, ceilings-is, energies}
 use Rattle.allocation.proofs.Quick.{roundTo, rounds, energies-quick}
-use Rattle.formulas.specs.Items.{paid, owed, energyPay, availability, inSeason, declarationCeiling, refundKwh, refund, countedDeviation, isCharged, weighted, baseCharge, hoursCounted, growth, chargeOf, drawnPay}
+use Rattle.formulas.specs.Items.{paid, owed, energyPay, drawnPay}
 use Rattle.settlement.specs.declared.HourResult.{HourResult}
-use Rattle.settlement.specs.Deviation.{shortMinutes, proportion, proportions, deviationsOf}
+use Rattle.settlement.specs.Deviation.{deviationsOf}
 use Rattle.settlement.specs.Hour.{pastAmounts, ratesOf, energyItem, availabilityItem, refundItem, testItem, drawnAt, plantOf, hourResult, hour-is}
 use Rattle.settlement.proofs.Ready.{ownAt, hourOffer}
 use Rattle.settlement.proofs.Laws.{amount-is}
-use Rattle.marked.specs.Figures.{net, hub, grains, three, Free, daySheet, takes, hourRecord, firstCase}
+use Rattle.marked.specs.Figures.{net, hub, grains, three, Free, daySheet, takes, firstCase}
 
 module _ (free : Free) where
-  pub second-ceilings : ceilings (net 320000) (net 0) (plantOf (daySheet free) (hourRecord 100000 98000 95000) takes)
-      ≡ three (grains 1081228669) (grains 1059604096) (grains 1027167235) (grains 0)
-  unfolding plantOf netEnergy realSum excess weightAt excessShares ceilingAt hubOf isMember memberAt sum tabulate largest addOnes shares
-  second-ceilings = ceilings-is (net 320000) (net 0) (plantOf (daySheet free) (hourRecord 100000 98000 95000) takes)
-
   first-ceilings : ceilings (net 320000) (net 0) (plantOf (daySheet free) firstCase takes)
       ≡ three (grains 1188000000) (grains 1485000000) (grains 1287000000) (grains 0)
   unfolding plantOf netEnergy realSum excess weightAt excessShares ceilingAt hubOf isMember memberAt sum tabulate largest addOnes shares
