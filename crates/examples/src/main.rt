@@ -1,9 +1,13 @@
 // Runs worked examples of the sources (000 and 001) that the scope document reproduces, and prints a line for each: the example's
 // number, then its figures.
 use energy::GrossKwh;
+use energy::HubGrains;
 use energy::HubKwh;
 use energy::NetKwh;
+use formulas::Deviations;
 use libc::STDOUT_FILENO;
+ghost use Prim.Native.Nat.{_≤_};
+ghost use Rattle.formulas.specs.Items.{Bounded, weighted};
 
 fn say(words: &[u8]) {
     io::write_all(STDOUT_FILENO, words);
@@ -32,10 +36,31 @@ fn example_21() {
     say(b"\n");
 }
 
+// The charge of a deviation by a base availability rate of 185,000, 0 where it is free.
+fn test_example(number: u64, d: Deviations, reading: NetKwh, since: u64, cpf: u64)
+    requires { ⌜ Bounded d × (weighted d 0 ≤ 10000000) × (cpf ≤ 10000) ⌝ }
+{
+    let q = formulas::counted_deviation(d, 0);
+    say_number(number);
+    say(b" ");
+    if q.0 <= 1000000 && formulas::is_charged(q, true, reading, HubGrains(0), 0) {
+        let w = formulas::weighted(d, 0);
+        say_number(formulas::charge_of(w, since, cpf, 185000));
+    } else {
+        say_number(0);
+    }
+    say(b"\n");
+}
+
 fn main() {
     example_13(3, 15);
     example_13(6, 15);
     example_13(3, 14);
     example_13(6, 16);
     example_21();
+    test_example(26, Deviations { kwh: [10000, 20000, 0, 0, 0, 0] }, NetKwh(80000), 1, 2000);
+    test_example(26, Deviations { kwh: [10000, 20000, 0, 0, 0, 0] }, NetKwh(80000), 2, 1980);
+    test_example(27, Deviations { kwh: [1800, 0, 0, 0, 0, 0] }, NetKwh(80000), 1, 2000);
+    test_example(28, Deviations { kwh: [0, 0, 0, 0, 40000, 0] }, NetKwh(0), 1, 2000);
+    test_example(28, Deviations { kwh: [0, 0, 0, 0, 40000, 0] }, NetKwh(0), 2, 1980);
 }
