@@ -52,15 +52,94 @@ fn test_example(number: u64, d: Deviations, reading: NetKwh, since: u64, cpf: u6
     say(b"\n");
 }
 
+// The refund of a unit that declared 98,000 net, with an own use of 2 per cent, by A: how much energy, and the amount.
+fn refund_example(number: u64, real: NetKwh, d: Deviations, a: GrossKwh)
+    requires { ⌜ (real .0 ≤ 1000000) × Bounded d × (a .0 ≤ 1000000) ⌝ }
+{
+    let declared = NetKwh(98000);
+    let allowed = energy::net_of(a, 200);
+    let short = formulas::refund_kwh(declared, real, d, allowed);
+    say_number(number);
+    say(b" ");
+    say_number(short.0);
+    say(b" ");
+    say_number(formulas::refund(declared, real, d, allowed, 1500, 185000));
+    say(b"\n");
+}
+
 fn main() {
     example_13(3, 15);
     example_13(6, 15);
     example_13(3, 14);
     example_13(6, 16);
     example_21();
-    test_example(26, Deviations { kwh: [10000, 20000, 0, 0, 0, 0] }, NetKwh(80000), 1, 2000);
-    test_example(26, Deviations { kwh: [10000, 20000, 0, 0, 0, 0] }, NetKwh(80000), 2, 1980);
-    test_example(27, Deviations { kwh: [1800, 0, 0, 0, 0, 0] }, NetKwh(80000), 1, 2000);
-    test_example(28, Deviations { kwh: [0, 0, 0, 0, 40000, 0] }, NetKwh(0), 1, 2000);
-    test_example(28, Deviations { kwh: [0, 0, 0, 0, 40000, 0] }, NetKwh(0), 2, 1980);
+    refund_example(
+        23,
+        NetKwh(90000),
+        Deviations {
+            kwh: [0, 0, 0, 10000, 0, 0],
+        },
+        GrossKwh(120000),
+    );
+    refund_example(
+        24,
+        NetKwh(70000),
+        Deviations {
+            kwh: [0, 0, 0, 10000, 0, 0],
+        },
+        GrossKwh(120000),
+    );
+    refund_example(
+        25,
+        NetKwh(90000),
+        Deviations {
+            kwh: [0, 0, 0, 10000, 0, 0],
+        },
+        GrossKwh(80000),
+    );
+    test_example(
+        26,
+        Deviations {
+            kwh: [10000, 20000, 0, 0, 0, 0],
+        },
+        NetKwh(80000),
+        1,
+        2000,
+    );
+    test_example(
+        26,
+        Deviations {
+            kwh: [10000, 20000, 0, 0, 0, 0],
+        },
+        NetKwh(80000),
+        2,
+        1980,
+    );
+    test_example(
+        27,
+        Deviations {
+            kwh: [1800, 0, 0, 0, 0, 0],
+        },
+        NetKwh(80000),
+        1,
+        2000,
+    );
+    test_example(
+        28,
+        Deviations {
+            kwh: [0, 0, 0, 0, 40000, 0],
+        },
+        NetKwh(0),
+        1,
+        2000,
+    );
+    test_example(
+        28,
+        Deviations {
+            kwh: [0, 0, 0, 0, 40000, 0],
+        },
+        NetKwh(0),
+        2,
+        1980,
+    );
 }

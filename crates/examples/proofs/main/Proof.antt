@@ -21,6 +21,15 @@ example-13-requires-4 c κs = search needs
 example-21-requires : tie.Need-example-21-requires
 example-21-requires c κs = search needs
 
+refund-example-requires : tie.Need-refund-example-requires
+refund-example-requires c κs = (omega arith, λ i l. short 0 0 0 10000 0 0 i (omega arith) (omega arith) (omega arith) (omega arith) (omega arith) (omega arith), omega arith)
+
+refund-example-requires-2 : tie.Need-refund-example-requires-2
+refund-example-requires-2 c κs = (omega arith, λ i l. short 0 0 0 10000 0 0 i (omega arith) (omega arith) (omega arith) (omega arith) (omega arith) (omega arith), omega arith)
+
+refund-example-requires-3 : tie.Need-refund-example-requires-3
+refund-example-requires-3 c κs = (omega arith, λ i l. short 0 0 0 10000 0 0 i (omega arith) (omega arith) (omega arith) (omega arith) (omega arith) (omega arith), omega arith)
+
 test-example-requires : tie.Need-test-example-requires
 unfolding weighted
 test-example-requires c κs = (λ i l. short 10000 20000 0 0 0 0 i (omega arith) (omega arith) (omega arith) (omega arith) (omega arith) (omega arith), omega arith, omega arith)
@@ -53,6 +62,9 @@ main-spec =
     example-13-requires-3
     example-13-requires-4
     example-21-requires
+    refund-example-requires
+    refund-example-requires-2
+    refund-example-requires-3
     test-example-requires
     test-example-requires-2
     test-example-requires-3
