@@ -5,4 +5,3 @@ pub mod Rounds
 pub mod Weights
 pub mod Quick
 pub mod Laws
-pub mod Marked
