@@ -19,7 +19,7 @@ use Rattle.record.specs.Spans.{unitAt as recordUnit}
 use Rattle.allocation.specs.Fill.{grainsAt, better, best}
 use Rattle.allocation.specs.Allocation.{netEnergy, plantEnergy, realSum, excess, weightAt, excessShares, ceilingAt, ceilings, ceilings-is, energies}
 use Rattle.allocation.proofs.Quick.{roundTo, rounds, energies-quick}
-use Rattle.formulas.specs.Items.{paid, owed, energyPay, drawnPay}
+use Rattle.formulas.specs.Items.{paid, owed, energyPay, declarationCeiling, drawnPay}
 use Rattle.settlement.specs.declared.HourResult.{HourResult}
 use Rattle.settlement.specs.Deviation.{deviationsOf}
 use Rattle.settlement.specs.Hour.{pastAmounts, ratesOf, energyItem, availabilityItem, refundItem, testItem, drawnAt, plantOf, hourResult, hour-is}
@@ -64,11 +64,12 @@ module _ (free : Free) where
       let own = ownAt (daySheet free) k in
       let u = recordUnit firstCase k in
       let declared = netOf (u .declared) own in
+      let allowed = netOf (declarationCeiling (rates .season) (u .power)) own in
       let d = deviationsOf own u in
       paid (energyPay cost)
       ∷ (availabilityItem rates declared (getD takes k (hub 0))
-      ∷ (refundItem rates own declared u d
-      ∷ (testItem rates u d (getD energy k (grains 0)) ∷ (owed drawn ∷ []))))
+      ∷ (refundItem rates declared (u .real) d allowed
+      ∷ (testItem rates (u .measured) (u .reading) (u .repair) (u .since) d (getD energy k (grains 0)) ∷ (owed drawn ∷ []))))
 
   abbrev pub placed : List HubGrains
   placed = three (grains 781000000) (grains 1100000000) (grains 1287000000) (grains 0)
