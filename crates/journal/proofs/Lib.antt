@@ -1,0 +1,5 @@
+pub mod Again
+pub mod OwnList
+pub mod Posted
+pub mod Turned
+pub mod Typed
