@@ -5,7 +5,7 @@ ghost use mathlib.Core.Bool.{_&&_};
 ghost use lib.Dec.{leb};
 ghost use Prim.Native.Nat.{ℕ, _≤_, _-_};
 ghost use lib.ListN.{length};
-ghost use Rattle.book.specs.Calls.{WellRead};
+ghost use Rattle.book.specs.Sound.{WellRead};
 ghost use Rattle.book.specs.Numbers.{refusalNumber, refusalLine};
 ghost use Rattle.book.specs.Requests.{takeRequest, releaseRequest, moveRequest, settleRequest, restateRequest, voidRequest};
 ghost use Rattle.journal.specs.Journal.{scannedIn, posted, Performed, performed};

@@ -49,8 +49,9 @@ use Rattle.book.specs.declared.Request.{Request}
 use Rattle.postings.specs.declared.Scanned.{Scanned}
 use Rattle.book.specs.declared.Decision.{Decision}
 use Rattle.book.specs.declared.Outcome.{Outcome}
-use Rattle.book.specs.Calls.{WellRead, decided, outcomeOf}
-use Rattle.book.proofs.Fits.{decided-fits}
+use Rattle.book.specs.Calls.{decided, outcomeOf}
+use Rattle.book.specs.Sound.{WellRead}
+use Rattle.book.proofs.Places.{decided-fits}
 use Rattle.journal.specs.Journal.{scannedIn, posted, decidedOn}
 use Rattle.journal.proofs.Again.{LentAgain, lends-again, comes-back}
 use Rattle.journal.proofs.Posted.{performed-is}
