@@ -612,7 +612,16 @@ pub fn restate_request(sheet: Sheet, text: &[u8], start: u64) -> Request
 }
 
 // A call of a list in its numbers.
-fn request_of(sheet: Sheet, text: &[u8], kind: u64, hour: u64, unit: u64, to: u64, kwh: u64, start: u64) -> Request
+fn request_of(
+    sheet: Sheet,
+    text: &[u8],
+    kind: u64,
+    hour: u64,
+    unit: u64,
+    to: u64,
+    kwh: u64,
+    start: u64,
+) -> Request
     ensures { λ r. ⌜ r ≡ requestOf sheet (callOf (now (text .entry)) kind hour unit to kwh start) ⌝ }
 {
     if kind == 1 {

@@ -1,5 +1,3 @@
 pub mod Again
-pub mod OwnList
 pub mod Posted
-pub mod Turned
 pub mod Typed

@@ -16,7 +16,6 @@ use Rattle.book.specs.declared.Request.{Request}
 use Rattle.book.specs.declared.Decision.{Decision}
 use Rattle.book.specs.declared.Outcome.{Outcome}
 use Rattle.journal.specs.declared.TotalAnswer.{TotalAnswer}
-use Rattle.journal.specs.declared.Ran.{Ran}
 use Rattle.postings.proofs.Scanned as C
 use Rattle.postings.proofs.Scanned.Laws as C′
 use Rattle.postings.proofs.Plan as P
@@ -33,8 +32,6 @@ use Rattle.book.proofs.Outcome as O
 use Rattle.book.proofs.Outcome.Laws as O′
 use Rattle.journal.proofs.TotalAnswer as U
 use Rattle.journal.proofs.TotalAnswer.Laws as U′
-use Rattle.journal.proofs.Ran as R
-use Rattle.journal.proofs.Ran.Laws as R′
 
 module _ {M : Type 1} (𝓤 : URA M) (H : Heap 𝓤) (A : Atoms 𝓤) (W : Given 𝓤 H A) where
   pub typed-scanned : (d : Scanned) (v : Val) → Is C.the-row d (v ∷ []) → Holds (hasTy C′.mir v) × WT v
@@ -60,6 +57,3 @@ module _ {M : Type 1} (𝓤 : URA M) (H : Heap 𝓤) (A : Atoms 𝓤) (W : Given
 
   pub typed-totalanswer : (d : TotalAnswer) (v : Val) → Is U.the-row d (v ∷ []) → Holds (hasTy U′.mir v) × WT v
   typed-totalanswer d v is = LL.lawful U.the-type U′.the-laws 𝓤 H A W .typed d (v ∷ []) is .0
-
-  pub typed-ran : (d : Ran) (v : Val) → Is R.the-row d (v ∷ []) → Holds (hasTy R′.mir v) × WT v
-  typed-ran d v is = LL.lawful R.the-type R′.the-laws 𝓤 H A W .typed d (v ∷ []) is .0
