@@ -6,7 +6,7 @@ ghost use lib.Dec.{leb};
 ghost use Prim.Native.Nat.{ℕ, _≤_, _-_};
 ghost use lib.ListN.{length};
 ghost use Rattle.book.specs.Sound.{WellRead};
-ghost use Rattle.book.specs.Requests.{takeRequest, releaseRequest, moveRequest, settleRequest, restateRequest};
+ghost use Rattle.book.specs.Requests.{takeRequest, releaseRequest, moveRequest, settleRequest, voidRequest};
 ghost use Rattle.journal.specs.Journal.{scannedIn, posted, Performed, performed};
 ghost use Rattle.journal.specs.Total.{totalBy, totalDecided, totalIn};
 use book::Outcome;
@@ -119,17 +119,10 @@ pub fn settle(
     perform(list, count, sheet, book, request)
 }
 
-pub fn restate(
-    list: &mut [Posting],
-    count: u64,
-    sheet: Sheet,
-    book: Book,
-    text: &[u8],
-    start: u64,
-) -> Outcome
-    ensures { λ r. ⌜ record { outcome = r; list = now (list .exit) } ≡ performed (now (list .entry)) count sheet book (restateRequest sheet (now (text .entry)) start) ⌝ }
+pub fn void_hour(list: &mut [Posting], count: u64, sheet: Sheet, book: Book, hour: u64) -> Outcome
+    ensures { λ r. ⌜ record { outcome = r; list = now (list .exit) } ≡ performed (now (list .entry)) count sheet book (voidRequest hour) ⌝ }
 {
-    let request = book::restate_request(sheet, text, start);
+    let request = book::void_request(hour);
     perform(list, count, sheet, book, request)
 }
 
