@@ -16,3 +16,6 @@ pub mod Whole
 pub mod Promise
 pub mod Ladders
 pub mod Room
+pub mod Well
+pub mod Places
+pub mod Numbered

@@ -5,3 +5,4 @@ pub mod Calls
 pub mod Sound
 pub mod Agrees
 pub mod Demand
+pub mod Requests

@@ -6,7 +6,9 @@ ghost use Prim.Native.Nat.{_≤_, min};
 ghost use Rattle.state.specs.Ranges.{bookHolds};
 ghost use Rattle.sheet.specs.Ranges.{sheetHolds};
 ghost use Rattle.settlement.specs.Ranges.{HourRead};
-ghost use Rattle.book.specs.Calls.{badHour, unknownUnits, shortOf, isSettled, heldKwh, lastKwh, withHeld, noPlan, refusedWith, changedTo, postedWith, takeDecided, releaseDecided, moveDecided, voidDecided, recordDecided, settleDecided, restateDecided, requestDecided, bookFits, decided, outcomeOf, plainRequest, recordRequest};
+ghost use Rattle.book.specs.Calls.{badHour, unknownUnits, shortOf, isSettled, heldKwh, lastKwh, withHeld, noPlan, refusedWith, changedTo, postedWith, takeDecided, releaseDecided, moveDecided, voidDecided, recordDecided, settleDecided, restateDecided, requestDecided, bookFits, decided, outcomeOf, plainRequest, recordRequest, requestOf};
+ghost use Rattle.book.specs.Ledger.{void};
+ghost use Rattle.book.specs.Requests.{takeRequest, releaseRequest, moveRequest, voidRequest, settleRequest, restateRequest, callOf, requestAt};
 ghost use Rattle.book.specs.Sound.{PostReady, Sound, WellRead};
 use energy::HubKwh;
 use lines::ReadAnswer;
@@ -574,37 +576,85 @@ fn record_request(sheet: Sheet, kind: u64, text: &[u8], start: u64) -> Request
 }
 
 pub fn take_request(hour: u64, unit: u64, kwh: u64) -> Request
-    ensures { λ r. ⌜ r ≡ plainRequest 1 hour unit 0 kwh ⌝ }
+    ensures { λ r. ⌜ r ≡ takeRequest hour unit kwh ⌝ }
 {
     plain_request(1, hour, unit, 0, kwh)
 }
 
 pub fn release_request(hour: u64, unit: u64, kwh: u64) -> Request
-    ensures { λ r. ⌜ r ≡ plainRequest 2 hour unit 0 kwh ⌝ }
+    ensures { λ r. ⌜ r ≡ releaseRequest hour unit kwh ⌝ }
 {
     plain_request(2, hour, unit, 0, kwh)
 }
 
 pub fn move_request(hour: u64, from: u64, to: u64, kwh: u64) -> Request
-    ensures { λ r. ⌜ r ≡ plainRequest 3 hour from to kwh ⌝ }
+    ensures { λ r. ⌜ r ≡ moveRequest hour from to kwh ⌝ }
 {
     plain_request(3, hour, from, to, kwh)
 }
 
 pub fn void_request(hour: u64) -> Request
-    ensures { λ r. ⌜ r ≡ plainRequest 6 hour 0 0 0 ⌝ }
+    ensures { λ r. ⌜ r ≡ voidRequest hour ⌝ }
 {
     plain_request(6, hour, 0, 0, 0)
 }
 
 pub fn settle_request(sheet: Sheet, text: &[u8], start: u64) -> Request
-    ensures { λ r. ⌜ r ≡ recordRequest sheet 4 (now (text .entry)) start ⌝ }
+    ensures { λ r. ⌜ r ≡ settleRequest sheet (now (text .entry)) start ⌝ }
 {
     record_request(sheet, 4, text, start)
 }
 
 pub fn restate_request(sheet: Sheet, text: &[u8], start: u64) -> Request
-    ensures { λ r. ⌜ r ≡ recordRequest sheet 5 (now (text .entry)) start ⌝ }
+    ensures { λ r. ⌜ r ≡ restateRequest sheet (now (text .entry)) start ⌝ }
 {
     record_request(sheet, 5, text, start)
+}
+
+// A call of a list in its numbers.
+fn request_of(
+    sheet: Sheet,
+    text: &[u8],
+    kind: u64,
+    hour: u64,
+    unit: u64,
+    to: u64,
+    kwh: u64,
+    start: u64,
+) -> Request
+    ensures { λ r. ⌜ r ≡ requestOf sheet (callOf (now (text .entry)) kind hour unit to kwh start) ⌝ }
+{
+    if kind == 1 {
+        return plain_request(1, hour, unit, 0, kwh);
+    }
+    if kind == 2 {
+        return plain_request(2, hour, unit, 0, kwh);
+    }
+    if kind == 3 {
+        return plain_request(3, hour, unit, to, kwh);
+    }
+    if kind == 4 {
+        return record_request(sheet, 4, text, start);
+    }
+    if kind == 5 {
+        return record_request(sheet, 5, text, start);
+    }
+    plain_request(6, hour, 0, 0, 0)
+}
+
+// Call i of a list of calls in numbers, six for each.
+pub fn request_at(sheet: Sheet, calls: &[u64], text: &[u8], i: usize) -> Request
+    ensures { λ r. ⌜ r ≡ requestAt sheet (now (calls .entry)) (now (text .entry)) i ⌝ }
+{
+    if i < calls.len() / 6 {
+        let at = 6 * i;
+        let kind = calls[at];
+        let hour = calls[at + 1];
+        let unit = calls[at + 2];
+        let to = calls[at + 3];
+        let kwh = calls[at + 4];
+        let start = calls[at + 5];
+        return request_of(sheet, text, kind, hour, unit, to, kwh, start);
+    }
+    plain_request(6, 0, 0, 0, 0)
 }
