@@ -20,3 +20,4 @@ pub mod Well
 pub mod Places
 pub mod Numbered
 pub mod Onward
+pub mod Coded
