@@ -247,10 +247,5 @@ module _ (sheet : Sheet) (room : ℕ) where
   from-fitting (c ∷ cs) l r s = from-fitting cs (step sheet room l c .ledger) (step-ready sheet room l c r) (step-fitting l c r s)
 
   -- after every list of calls, whatever the sheet: under one that fails 9 the ledger stays empty
-  pub ever-fits : (calls : List Call) → ledgerFits sheet room (run sheet room emptyLedger calls .ledger) ≡ true
-  ever-fits calls = from-fitting calls emptyLedger (empty-ready sheet) empty-fitting
-
--- so under one that passes 9, neither 9 nor 12 holds before any call of a list
-pub run-fits : (sheet : Sheet) (room : ℕ) → sheetHolds sheet ≡ true → (calls : List Call)
-    → ledgerFits sheet room (run sheet room emptyLedger calls .ledger) ≡ true
-run-fits sheet room t calls = ever-fits sheet room calls
+  pub run-fits : (calls : List Call) → ledgerFits sheet room (run sheet room emptyLedger calls .ledger) ≡ true
+  run-fits calls = from-fitting calls emptyLedger (empty-ready sheet) empty-fitting
