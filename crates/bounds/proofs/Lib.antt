@@ -1,2 +1,4 @@
+pub mod Changed
+pub mod Anywhere
 pub mod Parts
 pub mod Bounds
