@@ -2,7 +2,7 @@
 -- the test of that value.
 -- Assumes nothing.
 use mathlib.Core.Path.{_≡_, sym, _∙_, ap, subst}
-use mathlib.Core.Bool.{Bool, true, cond, _&&_, _||_}
+use mathlib.Core.Bool.{Bool, true, _&&_, _||_}
 use mathlib.Core.List.{List}
 use Prim.Native.Nat.{ℕ, _<_}
 use native.Mathlib.Omega.{arith}
@@ -11,10 +11,9 @@ use lib.IntN.{ℤ, pos}
 use lib.ListN.{length, getD, set}
 use lib.Seq.{getD-set-same, getD-set-other}
 use Rattle.finite.specs.Finite.{every}
-use Rattle.finite.proofs.Tests.{and-left, and-right, and-both, every-at, every-all}
+use Rattle.finite.proofs.Tests.{and-left, and-right, every-at, every-all}
 use Rattle.energy.specs.declared.HubKwh.{HubKwh}
 use Rattle.energy.specs.declared.HubGrains.{HubGrains}
-use Rattle.offer.specs.declared.Offer.{Offer}
 use Rattle.offer.specs.Offer.{pastOffer, offerHolds}
 use Rattle.sheet.specs.declared.UnitSheet.{UnitSheet}
 use Rattle.sheet.specs.declared.Sheet.{Sheet}
@@ -25,7 +24,7 @@ use Rattle.state.specs.declared.Book.{Book}
 use Rattle.state.specs.Sizes.{entryOf}
 use Rattle.state.specs.Book.{noKwh, noGrains, pastAmounts, amountsAt, Sized}
 use Rattle.state.specs.Ranges.{mostAmount, mostEnergy, within, limitAt, commitmentsHold, marksHold, energiesHold, itemsHold, amountsHold, bookHolds}
-use Rattle.bounds.specs.Anywhere.{withCpf, withUnit, withOffer, SheetBounds, UnitBounds, withCommitment, withMark, withEnergy, withAmount, BookBounds}
+use Rattle.bounds.specs.Anywhere.{withCpf, withUnit, SheetBounds, UnitBounds, withCommitment, withMark, withEnergy, withAmount, BookBounds}
 use Rattle.bounds.proofs.Changed.{every-one, every-set, and-first, and-second}
 
 module _ (s : Sheet) (holds : sheetHolds s ≡ true) where

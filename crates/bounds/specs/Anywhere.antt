@@ -1,13 +1,11 @@
 -- 9 and 12 at every hour and place: of any sheet and book that are not refused, one value is replaced by any other, and what they then
 -- say is the test of that value alone. Hours, places and items are counted from 0.
 use mathlib.Core.Path.{_≡_}
-use mathlib.Core.Bool.{Bool, true, cond, _||_}
+use mathlib.Core.Bool.{true, cond, _||_}
 use Prim.Native.Nat.{ℕ, _<_}
 use lib.Dec.{leb, eqb}
 use lib.IntN.{ℤ, natAbs}
 use lib.ListN.{set}
-use Rattle.energy.specs.declared.HubKwh.{HubKwh}
-use Rattle.energy.specs.declared.HubGrains.{HubGrains}
 use Rattle.units.specs.Units.{memberAt}
 use Rattle.offer.specs.declared.Offer.{Offer}
 use Rattle.offer.specs.Offer.{offerHolds}

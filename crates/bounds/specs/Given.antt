@@ -33,8 +33,8 @@ refusal g =
     let posted = postedHold (take (g .count) (g .journal)) in
     cond (sheetHolds (g .sheet)) (cond (bookHolds (g .sheet) (g .book) && (countHolds (g .count) (length (g .journal)) && posted)) 0 12) 9
 
--- what neither looks at: the sheet's values of units outside the plant, by unit, an offer's places past its steps, and the journal's
--- places past the count
+-- what neither looks at: the sheet's values of units outside the plant, by unit; an offer's places past its steps; and, by the place in
+-- the journal, what stands past the count, and all but the amount of what is counted
 pub record Free : Type 0 where
   pub outside : ℕ → UnitSheet
   pub quantities : List HubKwh
