@@ -72,23 +72,44 @@ use Rattle.journal.proofs.perform.Met as perform-thm
 -- ---- the parameters that such calls have: a number, the text, a call in numbers
 abbrev pub word : {m : ℕ} → Param m
 word = record {
-  slot = plain (λ _. usize); given = plain (λ _. usize); ty = tyInt w64;
-  val = λ κs x. vint w64 x; tells = λ κs. uint-tells w64; typed = λ 𝓤 H A W κs x is. (tt, record { fits = is .1 });
-  last = λ κs x. tt; silent = λ κs x f. refl; to = λ κs x. x; same = λ κs x vs. refl;
+  slot = plain (λ _. usize);
+  given = plain (λ _. usize);
+  ty = tyInt w64;
+  val = λ κs x. vint w64 x;
+  tells = λ κs. uint-tells w64;
+  typed = λ 𝓤 H A W κs x is. (tt, record { fits = is .1 });
+  last = λ κs x. tt;
+  silent = λ κs x f. refl;
+  to = λ κs x. x;
+  same = λ κs x vs. refl;
 }
 
 abbrev pub text : Param 1
 text = record {
-  slot = SliceRefOf (1 ∷ []) tt (plain (λ _. u8)) (λ _. tt); given = SliceRefOf (0 ∷ []) tt (plain (λ _. u8)) (λ _. tt); ty = sliceTy (tyRef (named 1) imm (pointee (u8 .written)));
-  val = λ κs x. sliceVal (x .ptr) (length (x .now)); tells = λ κs. shr-slice-tells (named 1) (κs .1 .0) u8; typed = λ 𝓤 H A W κs x is. (tt, (tt, (record { fits = is .0 .1 .0 }, tt)));
-  last = λ κs x. tt; silent = λ κs x f. refl; to = λ κs x. x; same = λ κs x vs. refl;
+  slot = SliceRefOf (1 ∷ []) tt (plain (λ _. u8)) (λ _. tt);
+  given = SliceRefOf (0 ∷ []) tt (plain (λ _. u8)) (λ _. tt);
+  ty = sliceTy (tyRef (named 1) imm (pointee (u8 .written)));
+  val = λ κs x. sliceVal (x .ptr) (length (x .now));
+  tells = λ κs. shr-slice-tells (named 1) (κs .1 .0) u8;
+  typed = λ 𝓤 H A W κs x is. (tt, (tt, (record { fits = is .0 .1 .0 }, tt)));
+  last = λ κs x. tt;
+  silent = λ κs x f. refl;
+  to = λ κs x. x;
+  same = λ κs x vs. refl;
 }
 
 abbrev pub in-numbers : {m : ℕ} → Param m
 in-numbers = record {
-  slot = plain (λ _. D.the-row); given = plain (λ _. D.the-row); ty = D′.mir;
-  val = λ κs x. D′.lowered x; tells = λ κs. D′.lowers .val-is; typed = λ 𝓤 H A W κs x is. typed-asked 𝓤 H A W x (D′.lowered x) is;
-  last = λ κs x. tt; silent = λ κs x f. refl; to = λ κs x. x; same = λ κs x vs. refl;
+  slot = plain (λ _. D.the-row);
+  given = plain (λ _. D.the-row);
+  ty = D′.mir;
+  val = λ κs x. D′.lowered x;
+  tells = λ κs. D′.lowers .val-is;
+  typed = λ 𝓤 H A W κs x is. typed-asked 𝓤 H A W x (D′.lowered x) is;
+  last = λ κs x. tt;
+  silent = λ κs x f. refl;
+  to = λ κs x. x;
+  same = λ κs x vs. refl;
 }
 
 abbrev ref-ty : Ty
@@ -137,7 +158,9 @@ module _ {m : ℕ} where
   abbrev pub thin-ended : List (Param m) → Ended
   thin-ended ps = record {
     signature = record {
-      lifetimes = suc m; outlives = []; result = plain (λ _. O.the-row);
+      lifetimes = suc m;
+      outlives = [];
+      result = plain (λ _. O.the-row);
       params = SliceRefMutOf (0 ∷ []) tt (plain (λ _. T.the-row)) (λ _. tt) ∷ plain (λ _. usize) ∷ plain (λ _. Z.the-row) ∷ plain (λ _. B.the-row) ∷ slots ps;
     };
     kept = (yes, (yes, (yes, (yes, all yes (slots ps)))));
@@ -152,7 +175,8 @@ module _ {m : ℕ} where
 
     abbrev pub thin-clauses : Clauses 𝓤 (thin-ended ps)
     thin-clauses κs a = record {
-      ghost = Unit {0}; requires = λ _. emp 𝓤;
+      ghost = Unit {0};
+      requires = λ _. emp 𝓤;
       ensures = λ _ r e. fact 𝓤 (_≡_ {A = Performed} (record { outcome = r; list = now (e .0) }) (performed (now (a .0)) (a .1 .0) (a .1 .1 .0) (a .1 .1 .1 .0) (made k ps Q κs (a .1 .1 .0) (a .1 .1 .1 .1))));
     }
 
@@ -168,7 +192,10 @@ module _ {m : ℕ} where
 
     abbrev thin-of : (tO tZ tB tK tP : Ty) → Fn
     thin-of tO tZ tB tK tP = record {
-      lifetimes = suc m; outlives = []; params = suc (suc (suc (suc (past ps 0)))); body = thin-body tP;
+      lifetimes = suc m;
+      outlives = [];
+      params = suc (suc (suc (suc (past ps 0))));
+      body = thin-body tP;
       locals = local tO valueLocal ∷ local list-ty valueLocal ∷ local (tyInt w64) valueLocal ∷ local tZ valueLocal ∷ local tB valueLocal ∷ locals ps (last-locals tK);
     }
 
