@@ -12,7 +12,8 @@ pub data Row : Type 0 where
   gives : (number : ℕ) → (Free → Given) → Row
   -- accepted from low to high; the number is that of the refusal past them
   range : (number : ℕ) → (Free → ℕ → Given) → (low high : ℕ) → Row
-  -- the most that is accepted, with either sign
+  -- the most that is accepted, the good value being 0; and with either sign
+  upTo : (number : ℕ) → (Free → ℕ → Given) → (most : ℕ) → Row
   within : (number : ℕ) → (Free → ℤ → Given) → (most : ℕ) → Row
 
 unfoldable pub gave : ℕ → Given → Bool
@@ -28,6 +29,7 @@ right free (gives number g) = gave number (g free)
 right free (range number value low high) =
     (gave 0 (value free low) && refusedBelow free number value low)
     && (gave 0 (value free high) && gave number (value free (high + 1)))
+right free (upTo number value most) = gave 0 (value free most) && gave number (value free (most + 1))
 right free (within number value most) =
     (gave 0 (value free (pos most)) && gave number (value free (pos (most + 1))))
     && (gave 0 (value free (negℤ (pos most))) && gave number (value free (negℤ (pos (most + 1)))))
@@ -80,26 +82,26 @@ offerRows hour unit =
 -- "commitment above the last offer, or over 0 outside the plant": the last quantity of the good offer, of a first step alone, and of ten
 unfoldable pub commitmentRows : List Row
 commitmentRows =
-    range 12 (commitment 1 1) 0 130000
-    ∷ range 12 (commitment 24 8) 0 130000
-    ∷ range 12 (commitmentUnder 1 1 1) 0 10
-    ∷ range 12 (commitmentUnder 1 24 8) 0 10
-    ∷ range 12 (commitmentUnder 10 1 1) 0 100
-    ∷ range 12 (commitmentUnder 10 24 8) 0 100
-    ∷ range 12 (commitment 1 2) 0 0
-    ∷ range 12 (commitment 24 7) 0 0
+    upTo 12 (commitment 1 1) 130000
+    ∷ upTo 12 (commitment 24 8) 130000
+    ∷ upTo 12 (commitmentUnder 1 1 1) 10
+    ∷ upTo 12 (commitmentUnder 1 24 8) 10
+    ∷ upTo 12 (commitmentUnder 10 1 1) 100
+    ∷ upTo 12 (commitmentUnder 10 24 8) 100
+    ∷ upTo 12 (commitment 1 2) 0
+    ∷ upTo 12 (commitment 24 7) 0
     ∷ []
 
 -- "hour mark neither open nor settled; .. stored amount beyond ±10^11 ..; stored energy above 8 × 10^10": units 2 and 7 are outside the
 -- plant
 unfoldable pub storedRows : List Row
 storedRows =
-    range 12 (mark 1) 0 1
-    ∷ range 12 (mark 24) 0 1
-    ∷ range 12 (energy 1 1) 0 80000000000
-    ∷ range 12 (energy 24 8) 0 80000000000
-    ∷ range 12 (energy 1 2) 0 80000000000
-    ∷ range 12 (energy 24 7) 0 80000000000
+    upTo 12 (mark 1) 1
+    ∷ upTo 12 (mark 24) 1
+    ∷ upTo 12 (energy 1 1) 80000000000
+    ∷ upTo 12 (energy 24 8) 80000000000
+    ∷ upTo 12 (energy 1 2) 80000000000
+    ∷ upTo 12 (energy 24 7) 80000000000
     ∷ within 12 (amount 1 1 1) 100000000000
     ∷ within 12 (amount 24 8 5) 100000000000
     ∷ within 12 (amount 1 2 1) 100000000000
@@ -109,9 +111,9 @@ storedRows =
 -- "count above the list or 100,000; .. posted beyond ±10^12"
 unfoldable pub journalRows : List Row
 journalRows =
-    range 12 (countIn 0) 0 0
-    ∷ range 12 (countIn 7) 0 7
-    ∷ range 12 (countIn 100001) 0 100000
+    upTo 12 (countIn 0) 0
+    ∷ upTo 12 (countIn 7) 7
+    ∷ upTo 12 (countIn 100001) 100000
     ∷ within 12 firstPosted 1000000000000
     ∷ within 12 lastPosted 1000000000000
     ∷ gives 0 uncounted
