@@ -6,7 +6,8 @@ use Rattle.book.specs.Requests.{callFor}
 use Rattle.book.proofs.Well.{call-well}
 use Rattle.book.proofs.request_of.Symbol as make-def
 use Rattle.book.proofs.request_of.Met as make-thm
-use Rattle.journal.proofs.Thin.{text, in-numbers, sheet-first, thin}
+use Rattle.journal.proofs.Params.{text, in-numbers}
+use Rattle.journal.proofs.Thin.{sheet-first, thin}
 use Rattle.journal.proofs.call.Key.{name}
 use Rattle.journal.proofs.call.Statement as stated
 use Rattle.journal.proofs.call.Code as code

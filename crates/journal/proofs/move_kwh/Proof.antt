@@ -5,7 +5,8 @@ use Rattle.book.specs.Requests.{moveRequest}
 use Rattle.book.proofs.Well.{move-well}
 use Rattle.book.proofs.move_request.Symbol as make-def
 use Rattle.book.proofs.move_request.Met as make-thm
-use Rattle.journal.proofs.Thin.{word, alone, thin}
+use Rattle.journal.proofs.Params.{word}
+use Rattle.journal.proofs.Thin.{alone, thin}
 use Rattle.journal.proofs.move_kwh.Key.{name}
 use Rattle.journal.proofs.move_kwh.Statement as stated
 use Rattle.journal.proofs.move_kwh.Code as code

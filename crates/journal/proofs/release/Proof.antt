@@ -5,7 +5,8 @@ use Rattle.book.specs.Requests.{releaseRequest}
 use Rattle.book.proofs.Well.{release-well}
 use Rattle.book.proofs.release_request.Symbol as make-def
 use Rattle.book.proofs.release_request.Met as make-thm
-use Rattle.journal.proofs.Thin.{word, alone, thin}
+use Rattle.journal.proofs.Params.{word}
+use Rattle.journal.proofs.Thin.{alone, thin}
 use Rattle.journal.proofs.release.Key.{name}
 use Rattle.journal.proofs.release.Statement as stated
 use Rattle.journal.proofs.release.Code as code

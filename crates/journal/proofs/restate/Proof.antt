@@ -5,7 +5,8 @@ use Rattle.book.specs.Requests.{restateRequest}
 use Rattle.book.proofs.Well.{restate-well}
 use Rattle.book.proofs.restate_request.Symbol as make-def
 use Rattle.book.proofs.restate_request.Met as make-thm
-use Rattle.journal.proofs.Thin.{text, word, sheet-first, thin}
+use Rattle.journal.proofs.Params.{text, word}
+use Rattle.journal.proofs.Thin.{sheet-first, thin}
 use Rattle.journal.proofs.restate.Key.{name}
 use Rattle.journal.proofs.restate.Statement as stated
 use Rattle.journal.proofs.restate.Code as code

@@ -5,7 +5,8 @@ use Rattle.book.specs.Requests.{settleRequest}
 use Rattle.book.proofs.Well.{settle-well}
 use Rattle.book.proofs.settle_request.Symbol as make-def
 use Rattle.book.proofs.settle_request.Met as make-thm
-use Rattle.journal.proofs.Thin.{text, word, sheet-first, thin}
+use Rattle.journal.proofs.Params.{text, word}
+use Rattle.journal.proofs.Thin.{sheet-first, thin}
 use Rattle.journal.proofs.settle.Key.{name}
 use Rattle.journal.proofs.settle.Statement as stated
 use Rattle.journal.proofs.settle.Code as code

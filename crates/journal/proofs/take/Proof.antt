@@ -5,7 +5,8 @@ use Rattle.book.specs.Requests.{takeRequest}
 use Rattle.book.proofs.Well.{take-well}
 use Rattle.book.proofs.take_request.Symbol as make-def
 use Rattle.book.proofs.take_request.Met as make-thm
-use Rattle.journal.proofs.Thin.{word, alone, thin}
+use Rattle.journal.proofs.Params.{word}
+use Rattle.journal.proofs.Thin.{alone, thin}
 use Rattle.journal.proofs.take.Key.{name}
 use Rattle.journal.proofs.take.Statement as stated
 use Rattle.journal.proofs.take.Code as code

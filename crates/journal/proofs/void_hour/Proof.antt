@@ -5,7 +5,8 @@ use Rattle.book.specs.Requests.{voidRequest}
 use Rattle.book.proofs.Well.{void-well}
 use Rattle.book.proofs.void_request.Symbol as make-def
 use Rattle.book.proofs.void_request.Met as make-thm
-use Rattle.journal.proofs.Thin.{word, alone, thin}
+use Rattle.journal.proofs.Params.{word}
+use Rattle.journal.proofs.Thin.{alone, thin}
 use Rattle.journal.proofs.void_hour.Key.{name}
 use Rattle.journal.proofs.void_hour.Statement as stated
 use Rattle.journal.proofs.void_hour.Code as code
