@@ -329,13 +329,18 @@ fn put_stop(out: &mut [u8], at: usize, line: u64, refusal: u64) -> usize {
 
 // The calls behind the sheet, up to the end of the text, where the 40 totals are listed, or to the first line that is no call.
 fn calls_of(sheet: Sheet, text: &[u8], from: usize, out: &mut [u8]) -> usize {
-    let extent = asks::extent(text, from);
+    let extent = asks::calls_from(text, from);
     if extent.refusal == 0 {
         let s = day(sheet, text, out, extent.calls + 40, started(from));
         return s.printed;
     }
     let s = day(sheet, text, out, extent.calls, started(from));
-    put_stop(out, s.printed, asks::line_number(text, extent.at), extent.refusal)
+    put_stop(
+        out,
+        s.printed,
+        asks::line_number(text, extent.at),
+        extent.refusal,
+    )
 }
 
 fn put_sheet_refused(out: &mut [u8], refusal: TextRefusal) -> usize {
