@@ -1,19 +1,16 @@
 -- What a line asks, part by part as the code goes, and the count of line ends.
 -- Assumes nothing.
-use mathlib.Core.Path.{_≡_, refl, ap, sym, _∙_}
-use mathlib.Core.Bool.{Bool, true, false, cond}
-use mathlib.Core.List.{List, [], _∷_}
-use Prim.Native.Nat.{ℕ, suc, _+_, _-_, _≤_, _<_}
+use mathlib.Core.Path.{_≡_, ap, sym, _∙_}
+use mathlib.Core.List.{List, _∷_}
+use Prim.Native.Nat.{ℕ, _+_, _-_, _≤_, _<_}
 use native.Mathlib.Omega.{arith}
 use native.Mathlib.Numerals.{add-one}
 use borrow.Author.Tests.{lt-ltb, le-ltb, eq-eqb, ne-eqb}
-use lib.Dec.{eqb, ltb}
 use lib.ListN.{length, drop, take, getD, length-drop, drop-of-length-le}
 use lib.Seq.{drop-cons}
 use Rattle.text.specs.Text.{seek, before, valuePart}
 use Rattle.text.specs.Rows.{valueOf}
 use Rattle.text.specs.declared.Line.{Line}
-use Rattle.asks.specs.declared.Asking.{Asking}
 use Rattle.asks.specs.Asks.{kindOf, rowOf, notAsked, askingOf, askingAt}
 use Rattle.asks.specs.Extent.{lineEnd, lineEnds}
 use Rattle.asks.proofs.Behind.{whole}

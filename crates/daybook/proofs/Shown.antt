@@ -2,7 +2,7 @@
 -- Assumes nothing.
 use mathlib.Core.Path.{_≡_, refl, ap, sym, subst, _∙_}
 use mathlib.Core.Bool.{Bool, true, false, cond}
-use mathlib.Core.List.{List, [], _∷_, _++_}
+use mathlib.Core.List.{List, [], _∷_}
 use Prim.Native.Nat.{ℕ, zero, suc, _+_, _≤_}
 use native.Mathlib.Omega.{arith}
 use borrow.Author.Tests.{ltb-true}
@@ -20,8 +20,8 @@ use Rattle.lines.proofs.Reading.{start-within}
 use Rattle.decimal.specs.Output.{Output, output, withByte, written}
 use Rattle.decimal.proofs.Laws.{written-append}
 use Rattle.entries.specs.Entries.{sheetRefused}
-use Rattle.daybook.specs.Course.{Running, Told, turned, toldTo, toldIn, ranAll, ownList, started, leftBy}
-use Rattle.daybook.specs.Replay.{Course, asked, called, printed, stepped, steps, begun, callLines, replayedBy, replayed}
+use Rattle.daybook.specs.Course.{Running, turned, toldTo, ranAll, ownList, started}
+use Rattle.daybook.specs.Replay.{Course, called, printed, stepped, steps, begun, callLines, replayedBy, replayed}
 
 -- the code's state where a course's bytes are written into a buffer from its first place on
 abbrev pub shownBy : Course → Output → Running

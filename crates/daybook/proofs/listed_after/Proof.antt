@@ -1,19 +1,11 @@
 -- By the place, then by the number listed.
 -- Assumes nothing.
-use Rattle.daybook.specs.Replay.{turnsOf, stopOf, callLines, steps, begun, replayedBy, replayed}
-use Rattle.daybook.specs.Course.{askedNext, listedAfter, firstTables, turnText, toldTo, toldIn, standAt, Told, Running, ranAll, ownList, started as startedAt}
-use Rattle.decimal.proofs.Laws.{then, written-one, written-none}
-use Rattle.decimal.specs.Output.{Output, output, written}
-use borrow.Author.Tests.{eq-eqb, ne-eqb, lt-ltb, le-ltb}
-use native.Mathlib.Omega.{arith}
-use Prim.Native.Nat.{ℕ, _+_, _/_, _%_, _<_, _≤_}
-use mathlib.Core.List.{List, [], _∷_, _++_}
-use mathlib.Core.Path.{_≡_, refl, sym, ap, ap₂, _∙_}
+use Rattle.daybook.specs.Course.{listedAfter}
+use Rattle.decimal.proofs.Laws.{then}
+use borrow.Author.Tests.{lt-ltb, le-ltb}
 use borrow.Author.Needs.{needs}
 use Rattle.daybook.proofs.listed_after.Statement.{statement}
 use Rattle.daybook.proofs.listed_after.Tie as tie
-use Rattle.daybook.proofs.listed_after.Reads as reads
-use Rattle.daybook.proofs.listed_after.Lts as lts
 
 returns : tie.Need-returns
 unfolding listedAfter

@@ -6,25 +6,18 @@ use Rattle.entries.specs.Entries.{stopLine}
 use Rattle.sheet.specs.declared.Sheet.{Sheet}
 use Rattle.asks.specs.Extent.{extentOf}
 use Rattle.asks.specs.declared.Extent.{Extent}
-use Rattle.daybook.specs.Replay.{turnsOf, stopOf, callLines, steps, begun, replayedBy, replayed}
-use Rattle.daybook.specs.Course.{askedNext, listedAfter, firstTables, turnText, toldTo, toldIn, standAt, Told, Running, ranAll, ownList, started as startedAt}
-use Rattle.decimal.proofs.Laws.{then, written-one, written-none}
-use Rattle.decimal.specs.Output.{Output, output, written}
-use borrow.Author.Tests.{eq-eqb, ne-eqb, lt-ltb, le-ltb}
+use Rattle.daybook.specs.Replay.{turnsOf, callLines, steps, begun}
+use Rattle.daybook.specs.Course.{Running, ranAll, ownList, started as startedAt}
+use Rattle.decimal.proofs.Laws.{then, written-none}
+use Rattle.decimal.specs.Output.{output, written}
+use borrow.Author.Tests.{eq-eqb, ne-eqb}
 use native.Mathlib.Omega.{arith}
-use Prim.Native.Nat.{ℕ, _+_, _/_, _%_, _<_, _≤_}
-use mathlib.Core.List.{List, [], _∷_, _++_}
-use mathlib.Core.Path.{_≡_, refl, sym, ap, ap₂, _∙_}
+use Prim.Native.Nat.{ℕ}
+use mathlib.Core.List.{List, []}
+use mathlib.Core.Path.{_≡_, sym, ap, ap₂, _∙_}
 use borrow.Author.Needs.{needs}
 use Rattle.daybook.proofs.put_calls.Statement.{statement}
 use Rattle.daybook.proofs.put_calls.Tie as tie
-use Rattle.daybook.proofs.put_calls.Reads as reads
-use Rattle.daybook.proofs.put_calls.Lts as lts
-use Rattle.asks.proofs.calls_from.Reads as calls-from-reads
-use Rattle.daybook.proofs.day.Reads as day-reads
-use Rattle.daybook.proofs.started.Reads as started-reads
-use Rattle.daybook.proofs.turns_of.Reads as turns-of-reads
-use Rattle.entries.proofs.put_stop.Reads as put-stop-reads
 
 -- what the run over a list of its own leaves
 left : (sheet : Sheet) (text out out₂ : List ℕ) (from n m : ℕ) (start stand : Stand) → n ≡ m → start ≡ startedAt from

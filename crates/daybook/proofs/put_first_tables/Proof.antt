@@ -1,20 +1,13 @@
 -- The tables before the first total, nothing before another.
 -- Assumes nothing.
-use Rattle.daybook.specs.Replay.{turnsOf, stopOf, callLines, steps, begun, replayedBy, replayed}
-use Rattle.daybook.specs.Course.{askedNext, listedAfter, firstTables, turnText, toldTo, toldIn, standAt, Told, Running, ranAll, ownList, started as startedAt}
-use Rattle.decimal.proofs.Laws.{then, written-one, written-none}
-use Rattle.decimal.specs.Output.{Output, output, written}
-use borrow.Author.Tests.{eq-eqb, ne-eqb, lt-ltb, le-ltb}
-use native.Mathlib.Omega.{arith}
-use Prim.Native.Nat.{ℕ, _+_, _/_, _%_, _<_, _≤_}
-use mathlib.Core.List.{List, [], _∷_, _++_}
-use mathlib.Core.Path.{_≡_, refl, sym, ap, ap₂, _∙_}
+use Rattle.daybook.specs.Course.{firstTables}
+use Rattle.decimal.proofs.Laws.{written-none}
+use Rattle.decimal.specs.Output.{written}
+use borrow.Author.Tests.{eq-eqb, ne-eqb}
+use mathlib.Core.Path.{sym}
 use borrow.Author.Needs.{needs}
 use Rattle.daybook.proofs.put_first_tables.Statement.{statement}
 use Rattle.daybook.proofs.put_first_tables.Tie as tie
-use Rattle.daybook.proofs.put_first_tables.Reads as reads
-use Rattle.daybook.proofs.put_first_tables.Lts as lts
-use Rattle.entries.proofs.put_tables.Reads as put-tables-reads
 
 put-tables-requires : tie.Need-put-tables-requires
 put-tables-requires c κs = search needs

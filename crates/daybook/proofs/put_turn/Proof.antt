@@ -1,23 +1,13 @@
 -- By whether the place is within the text.
 -- Assumes nothing.
 use Rattle.entries.specs.Tables.{totalLine}
-use Rattle.daybook.specs.Replay.{turnsOf, stopOf, callLines, steps, begun, replayedBy, replayed}
-use Rattle.daybook.specs.Course.{askedNext, listedAfter, firstTables, turnText, toldTo, toldIn, standAt, Told, Running, ranAll, ownList, started as startedAt}
-use Rattle.decimal.proofs.Laws.{then, written-one, written-none}
-use Rattle.decimal.specs.Output.{Output, output, written}
-use borrow.Author.Tests.{eq-eqb, ne-eqb, lt-ltb, le-ltb}
-use native.Mathlib.Omega.{arith}
-use Prim.Native.Nat.{ℕ, _+_, _/_, _%_, _<_, _≤_}
-use mathlib.Core.List.{List, [], _∷_, _++_}
-use mathlib.Core.Path.{_≡_, refl, sym, ap, ap₂, _∙_}
+use Rattle.daybook.specs.Course.{firstTables, turnText}
+use Rattle.decimal.proofs.Laws.{then}
+use Rattle.decimal.specs.Output.{output}
+use borrow.Author.Tests.{lt-ltb, le-ltb}
 use borrow.Author.Needs.{needs}
 use Rattle.daybook.proofs.put_turn.Statement.{statement}
 use Rattle.daybook.proofs.put_turn.Tie as tie
-use Rattle.daybook.proofs.put_turn.Reads as reads
-use Rattle.daybook.proofs.put_turn.Lts as lts
-use Rattle.daybook.proofs.put_first_tables.Reads as put-first-tables-reads
-use Rattle.entries.proofs.put_entry.Reads as put-entry-reads
-use Rattle.entries.proofs.put_listed.Reads as put-listed-reads
 
 put-entry-requires : tie.Need-put-entry-requires
 put-entry-requires c κs = search needs

@@ -2,25 +2,12 @@
 -- Assumes nothing.
 use Rattle.daybook.proofs.Shown.{read-short, read-printed, refused-printed, printed-within}
 use Rattle.sheet.specs.declared.SheetRead.{SheetRead}
-use Rattle.entries.specs.Entries.{sheetRefused}
-use lib.ListN.{length}
-use Rattle.daybook.specs.Replay.{turnsOf, stopOf, callLines, steps, begun, replayedBy, replayed}
-use Rattle.daybook.specs.Course.{askedNext, listedAfter, firstTables, turnText, toldTo, toldIn, standAt, Told, Running, ranAll, ownList, started as startedAt}
-use Rattle.decimal.proofs.Laws.{then, written-one, written-none}
-use Rattle.decimal.specs.Output.{Output, output, written}
-use borrow.Author.Tests.{eq-eqb, ne-eqb, lt-ltb, le-ltb}
-use native.Mathlib.Omega.{arith}
-use Prim.Native.Nat.{ℕ, _+_, _/_, _%_, _<_, _≤_}
-use mathlib.Core.List.{List, [], _∷_, _++_}
-use mathlib.Core.Path.{_≡_, refl, sym, ap, ap₂, _∙_}
+use Rattle.daybook.specs.Replay.{replayed}
+use Rattle.decimal.specs.Output.{output, written}
+use mathlib.Core.Path.{_≡_, sym, ap, _∙_}
 use borrow.Author.Needs.{needs}
 use Rattle.daybook.proofs.replay_of.Statement.{statement}
 use Rattle.daybook.proofs.replay_of.Tie as tie
-use Rattle.daybook.proofs.replay_of.Reads as reads
-use Rattle.daybook.proofs.replay_of.Lts as lts
-use Rattle.daybook.proofs.put_calls.Reads as put-calls-reads
-use Rattle.entries.proofs.put_sheet_refused.Reads as put-sheet-refused-reads
-use Rattle.sheet.proofs.read_sheet.Reads as read-sheet-reads
 
 read-sheet-requires : tie.Need-read-sheet-requires
 read-sheet-requires c κs = search needs

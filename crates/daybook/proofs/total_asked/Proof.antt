@@ -2,21 +2,11 @@
 -- Assumes nothing.
 use Rattle.asks.specs.declared.Asking.{Asking}
 use Rattle.book.specs.declared.Asked.{Asked}
-use Rattle.daybook.specs.Replay.{turnsOf, stopOf, callLines, steps, begun, replayedBy, replayed}
-use Rattle.daybook.specs.Course.{askedNext, listedAfter, firstTables, turnText, toldTo, toldIn, standAt, Told, Running, ranAll, ownList, started as startedAt}
-use Rattle.decimal.proofs.Laws.{then, written-one, written-none}
-use Rattle.decimal.specs.Output.{Output, output, written}
-use borrow.Author.Tests.{eq-eqb, ne-eqb, lt-ltb, le-ltb}
-use native.Mathlib.Omega.{arith}
-use Prim.Native.Nat.{ℕ, _+_, _/_, _%_, _<_, _≤_}
-use mathlib.Core.List.{List, [], _∷_, _++_}
-use mathlib.Core.Path.{_≡_, refl, sym, ap, ap₂, _∙_}
+use Prim.Native.Nat.{_+_, _/_, _%_}
+use mathlib.Core.Path.{ap}
 use borrow.Author.Needs.{needs}
 use Rattle.daybook.proofs.total_asked.Statement.{statement}
 use Rattle.daybook.proofs.total_asked.Tie as tie
-use Rattle.daybook.proofs.total_asked.Reads as reads
-use Rattle.daybook.proofs.total_asked.Lts as lts
-use Rattle.asks.proofs.no_asked.Reads as no-asked-reads
 
 no-asked-requires : tie.Need-no-asked-requires
 no-asked-requires c κs = search needs
