@@ -1,0 +1,3 @@
+pub mod Behind
+pub mod Parts
+pub mod Counted

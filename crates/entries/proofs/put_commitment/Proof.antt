@@ -1,0 +1,86 @@
+-- The fields one after the other, where the commitment is over 0.
+-- Assumes nothing.
+use Rattle.state.specs.Book.{commitmentAt}
+use Rattle.energy.specs.declared.HubKwh.{HubKwh}
+use borrow.Author.Tests.{eq-eqb, ne-eqb}
+use Rattle.entries.specs.Tables.{commitmentLine}
+use Rattle.entries.specs.Entries.{field}
+use Rattle.text.specs.Bytes.{bytes}
+use Rattle.decimal.proofs.Laws.{then, written-one, written-none}
+use Rattle.decimal.specs.Output.{output, written}
+use Prim.Native.Nat.{_+_}
+use mathlib.Core.List.{[], _∷_, _++_}
+use mathlib.Core.Path.{_≡_, sym, ap, _∙_}
+use borrow.Author.Needs.{needs}
+use Rattle.entries.proofs.put_commitment.Statement.{statement}
+use Rattle.entries.proofs.put_commitment.Tie as tie
+
+commitment-at-requires : tie.Need-commitment-at-requires
+commitment-at-requires c κs = search needs
+
+returns : tie.Need-returns
+unfolding commitmentLine
+returns c =
+    let h : commitmentAt (c .before .before .before .before .args .book) (c .before .before .before .before .args .h) (c .before .before .before .before .args .k) .0 ≡ 0 = ap (λ (x : HubKwh). x .0) (sym (c .before .before .commitment-at .ensures)) ∙ c .if1 .taken in
+    simp (eq-eqb _ _ h) (sym (written-none _))
+
+slice-aggregate-put-bytes : tie.Need-slice-aggregate-put-bytes
+slice-aggregate-put-bytes c = search needs
+
+put-bytes-requires : tie.Need-put-bytes-requires
+put-bytes-requires c κs = search needs
+
+add-put-field : tie.Need-add-put-field
+add-put-field c = search needs
+
+put-field-requires : tie.Need-put-field-requires
+put-field-requires c κs = search needs
+
+add-put-field-2 : tie.Need-add-put-field-2
+add-put-field-2 c = search needs
+
+put-field-requires-2 : tie.Need-put-field-requires-2
+put-field-requires-2 c κs = search needs
+
+put-field-requires-3 : tie.Need-put-field-requires-3
+put-field-requires-3 c κs = search needs
+
+put-byte-requires : tie.Need-put-byte-requires
+put-byte-requires c κs = search needs
+
+same-length : tie.Need-same-length
+same-length c = search needs
+
+returns-2 : tie.Need-returns-2
+unfolding commitmentLine
+returns-2 c =
+    let g = c .before .before .before .before .before .before .before .before .before .before .before .before .before .before .before .before .before .before .before .before .before .before .before .before .before .args in
+    let o = output (g .out .now) (g .at) in
+    let o1 = output (c .before .before .before .before .before .before .before .before .before .before .before .before .before .before .before .before .before .before .put-bytes .last .0) (c .before .before .before .before .before .before .before .before .before .before .before .before .before .before .before .before .before .before .put-bytes .result) in
+    let o2 = output (c .before .before .before .before .before .before .before .before .before .before .before .before .before .before .put-field .last .0) (c .before .before .before .before .before .before .before .before .before .before .before .before .before .before .put-field .result) in
+    let o3 = output (c .before .before .before .before .before .before .before .before .before .before .put-field2 .last .0) (c .before .before .before .before .before .before .before .before .before .before .put-field2 .result) in
+    let o4 = output (c .before .before .before .before .before .before .put-field3 .last .0) (c .before .before .before .before .before .before .put-field3 .result) in
+    let h : commitmentAt (g .book) (g .h) (g .k) .0 ≡ 0 → ⊥ = λ z. c .before .before .before .before .before .before .before .before .before .before .before .before .before .before .before .before .before .before .before .before .before .if1 .left (ap (λ (x : HubKwh). x .0) (c .before .before .before .before .before .before .before .before .before .before .before .before .before .before .before .before .before .before .before .before .before .before .before .commitment-at .ensures) ∙ z) in
+    simp (ne-eqb _ _ h)
+    (then o o1 (bytes "commitment") (field (g .h + 1) ++ (field (g .k + 1) ++ (field (commitmentAt (g .book) (g .h) (g .k) .0) ++ ((10 ∷ []))))) (c .before .before .before .before .before .before .before .before .before .before .before .before .before .before .before .before .before .before .put-bytes .ensures)
+    (then o1 o2 (field (g .h + 1)) (field (g .k + 1) ++ (field (commitmentAt (g .book) (g .h) (g .k) .0) ++ ((10 ∷ [])))) (c .before .before .before .before .before .before .before .before .before .before .before .before .before .before .put-field .ensures)
+    (then o2 o3 (field (g .k + 1)) (field (commitmentAt (g .book) (g .h) (g .k) .0) ++ ((10 ∷ []))) (c .before .before .before .before .before .before .before .before .before .before .put-field2 .ensures)
+    (then o3 o4 (field (commitmentAt (g .book) (g .h) (g .k) .0)) (10 ∷ []) (c .before .before .before .before .before .before .put-field3 .ensures ∙ ap (λ (x : HubKwh). written o3 (field (x .0))) (c .before .before .before .before .before .before .before .before .before .before .before .before .before .before .before .before .before .before .before .before .before .before .before .commitment-at .ensures))
+    (c .before .before .put-byte .ensures ∙ sym (written-one o4 10))))))
+
+pub put-commitment-spec : {M : Type 1} → statement M
+put-commitment-spec =
+    tie.close
+    (tie.spec
+    commitment-at-requires
+    returns
+    slice-aggregate-put-bytes
+    put-bytes-requires
+    add-put-field
+    put-field-requires
+    add-put-field-2
+    put-field-requires-2
+    put-field-requires-3
+    put-byte-requires
+    same-length
+    returns-2)
