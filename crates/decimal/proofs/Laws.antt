@@ -36,6 +36,10 @@ pub written-after : (o : Output) (b : ℕ) (bs : List ℕ) → written (withByte
 unfolding written
 written-after o b bs = refl
 
+-- what is written behind what stands there already
+pub then : (o p : Output) (xs ys : List ℕ) {r : Output} → p ≡ written o xs → r ≡ written p ys → r ≡ written o (xs ++ ys)
+then o p xs ys e f = f ∙ (ap (λ (q : Output). written q ys) e ∙ written-append o xs ys)
+
 by-room : (t : Bool) (o : Output) (b : ℕ) → length (cond t (output (set (o .buffer) (o .place) b) (o .place + 1)) o .buffer) ≡ length (o .buffer)
 by-room true o b = length-set (o .buffer) (o .place) b
 by-room false o b = refl

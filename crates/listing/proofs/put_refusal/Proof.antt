@@ -1,0 +1,49 @@
+-- The key, the number, the line end.
+-- Assumes nothing.
+use mathlib.Core.Path.{sym, _∙_}
+use mathlib.Core.List.{[], _∷_, _++_}
+use Rattle.decimal.specs.Output.{output}
+use Rattle.decimal.specs.Decimal.{digits}
+use Rattle.decimal.proofs.Laws.{then, written-one}
+use Rattle.text.specs.Bytes.{bytes}
+use Rattle.listing.specs.Listing.{refusalLine}
+use borrow.Author.Needs.{needs}
+use Rattle.listing.proofs.put_refusal.Statement.{statement}
+use Rattle.listing.proofs.put_refusal.Tie as tie
+
+slice-aggregate-put-bytes : tie.Need-slice-aggregate-put-bytes
+slice-aggregate-put-bytes c = search needs
+
+put-bytes-requires : tie.Need-put-bytes-requires
+put-bytes-requires c κs = search needs
+
+put-number-requires : tie.Need-put-number-requires
+put-number-requires c κs = search needs
+
+put-byte-requires : tie.Need-put-byte-requires
+put-byte-requires c κs = search needs
+
+same-length : tie.Need-same-length
+same-length c = search needs
+
+returns : tie.Need-returns
+unfolding refusalLine
+returns c =
+    let g = c .before .before .before .before .before .before .before .before .before .before .before .before .before .before .args in
+    let o = output (g .out .now) (g .at) in
+    let o1 = output (c .before .before .before .before .before .before .before .before .before .before .put-bytes .last .0) (c .before .before .before .before .before .before .before .before .before .before .put-bytes .result) in
+    let o2 = output (c .before .before .before .before .before .before .put-number .last .0) (c .before .before .before .before .before .before .put-number .result) in
+    then o o1 (bytes "refused=") (digits (g .number) ++ (10 ∷ [])) (c .before .before .before .before .before .before .before .before .before .before .put-bytes .ensures)
+    (then o1 o2 (digits (g .number)) (10 ∷ []) (c .before .before .before .before .before .before .put-number .ensures)
+    (c .before .before .put-byte .ensures ∙ sym (written-one o2 10)))
+
+pub put-refusal-spec : {M : Type 1} → statement M
+put-refusal-spec =
+    tie.close
+    (tie.spec
+    slice-aggregate-put-bytes
+    put-bytes-requires
+    put-number-requires
+    put-byte-requires
+    same-length
+    returns)
