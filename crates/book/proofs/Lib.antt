@@ -19,3 +19,4 @@ pub mod Room
 pub mod Well
 pub mod Places
 pub mod Numbered
+pub mod Onward

@@ -7,33 +7,34 @@ use Prim.Native.Nat.{ℕ}
 use lib.Dec.{eqb}
 use Rattle.sheet.specs.declared.Sheet.{Sheet}
 use Rattle.book.specs.Calls.{plainRequest, recordRequest, requestOf}
-use Rattle.book.specs.Requests.{callOf}
+use Rattle.book.specs.declared.Asked.{Asked}
+use Rattle.book.specs.Requests.{partOf, callFor}
 
-module _ (s : Sheet) (text : List ℕ) (kind hour unit to kwh start : ℕ) where
-  pub take-by : eqb kind 1 ≡ true → plainRequest 1 hour unit 0 kwh ≡ requestOf s (callOf text kind hour unit to kwh start)
-  unfolding callOf
+module _ (s : Sheet) (text : List ℕ) (a : Asked) where
+  pub take-by : eqb (a .kind) 1 ≡ true → plainRequest 1 (a .hour) (a .unit) 0 (a .kwh) ≡ requestOf s (callFor text a)
+  unfolding callFor
   take-by e = simp e
 
-  module _ (n1 : eqb kind 1 ≡ false) where
-    pub release-by : eqb kind 2 ≡ true → plainRequest 2 hour unit 0 kwh ≡ requestOf s (callOf text kind hour unit to kwh start)
-    unfolding callOf
+  module _ (n1 : eqb (a .kind) 1 ≡ false) where
+    pub release-by : eqb (a .kind) 2 ≡ true → plainRequest 2 (a .hour) (a .unit) 0 (a .kwh) ≡ requestOf s (callFor text a)
+    unfolding callFor
     release-by e = simp (n1, e)
 
-    module _ (n2 : eqb kind 2 ≡ false) where
-      pub move-by : eqb kind 3 ≡ true → plainRequest 3 hour unit to kwh ≡ requestOf s (callOf text kind hour unit to kwh start)
-      unfolding callOf
+    module _ (n2 : eqb (a .kind) 2 ≡ false) where
+      pub move-by : eqb (a .kind) 3 ≡ true → plainRequest 3 (a .hour) (a .unit) (a .to) (a .kwh) ≡ requestOf s (callFor text a)
+      unfolding callFor
       move-by e = simp (n1, n2, e)
 
-      module _ (n3 : eqb kind 3 ≡ false) where
-        pub settle-by : eqb kind 4 ≡ true → recordRequest s 4 text start ≡ requestOf s (callOf text kind hour unit to kwh start)
-        unfolding callOf
+      module _ (n3 : eqb (a .kind) 3 ≡ false) where
+        pub settle-by : eqb (a .kind) 4 ≡ true → recordRequest s 4 (partOf text (a .begin) (a .end)) (a .start) ≡ requestOf s (callFor text a)
+        unfolding callFor
         settle-by e = simp (n1, n2, n3, e)
 
-        module _ (n4 : eqb kind 4 ≡ false) where
-          pub restate-by : eqb kind 5 ≡ true → recordRequest s 5 text start ≡ requestOf s (callOf text kind hour unit to kwh start)
-          unfolding callOf
+        module _ (n4 : eqb (a .kind) 4 ≡ false) where
+          pub restate-by : eqb (a .kind) 5 ≡ true → recordRequest s 5 (partOf text (a .begin) (a .end)) (a .start) ≡ requestOf s (callFor text a)
+          unfolding callFor
           restate-by e = simp (n1, n2, n3, n4, e)
 
-          pub void-by : eqb kind 5 ≡ false → plainRequest 6 hour 0 0 0 ≡ requestOf s (callOf text kind hour unit to kwh start)
-          unfolding callOf
+          pub void-by : eqb (a .kind) 5 ≡ false → plainRequest 6 (a .hour) 0 0 0 ≡ requestOf s (callFor text a)
+          unfolding callFor
           void-by e = simp (n1, n2, n3, n4, e)

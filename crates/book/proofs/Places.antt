@@ -1,29 +1,36 @@
--- What is decided fits the places that are free: a call that posts passed 42, and five postings a unit are at most 40.
+-- What is decided fits the places that are free: a call that posts passed 42, and five postings a unit are at most 40, the rows of a plan.
+-- Where the count does not hold, 12 is met whatever the postings are.
 -- Assumes nothing.
-use mathlib.Core.Path.{_≡_, refl}
-use mathlib.Core.Bool.{Bool, true, false, cond, not}
+use mathlib.Core.Path.{_≡_, refl, ap}
+use mathlib.Core.Bool.{Bool, true, false, cond, not, _&&_}
 use mathlib.Core.List.{List, [], _∷_, _++_}
 use Prim.Native.Nat.{ℕ, _+_, _-_, _*_, _≤_, min}
 use native.Mathlib.Omega.{arith}
 use borrow.Author.Tests.{ltb-false, not-true, not-false}
 use lib.Count.{ones, ones-le}
 use lib.Dec.{eqb}
+use lib.ListN.{length}
 use Rattle.units.specs.Units.{unitCount}
 use Rattle.sheet.specs.declared.Sheet.{Sheet}
 use Rattle.sheet.specs.Ranges.{sheetHolds}
 use Rattle.sheet.proofs.InRange.{in-range}
+use Rattle.settlement.specs.declared.Amounts.{Amounts}
 use Rattle.state.specs.declared.Book.{Book}
 use Rattle.state.specs.Book.{noResult, openMark, settledMark}
+use Rattle.state.specs.Ranges.{bookHolds}
+use Rattle.postings.specs.Journal.{countHolds}
+use Rattle.postings.specs.Plan.{planOf}
+use Rattle.postings.proofs.Posted.{plan-length}
 use Rattle.book.specs.declared.Refusal.{Refusal}
-use Rattle.book.specs.declared.Refusal.the-variants.{HourStands, HourOpen}
+use Rattle.book.specs.declared.Refusal.the-variants.{SheetRange, BookRange, HourStands, HourOpen}
 use Rattle.book.specs.declared.Verdict.{Verdict}
 use Rattle.book.specs.declared.Verdict.the-variants.{Accepted as passes, Refused as fails}
 use Rattle.book.specs.declared.Request.{Request}
 use Rattle.book.specs.declared.Decision.{Decision}
-use Rattle.book.specs.Calls.{Row, row, verdict, badHour, isSettled, heldKwh, shortOf, textRows, takeRows, releaseRows, moveRows, recordRows, voidRows, requestRows, rowsOf, byVerdict, refusedWith, changedTo, postedWith, recordedIn, withHeld, acceptedIn, decided}
+use Rattle.book.specs.Calls.{Row, row, verdict, badHour, isSettled, heldKwh, shortOf, textRows, takeRows, releaseRows, moveRows, recordRows, voidRows, requestRows, rowsOf, byVerdict, refusedWith, changedTo, postedWith, recordedIn, withHeld, acceptedIn, decided, bookFits}
 
 abbrev FitsIn : ℕ → Decision → Type 0
-FitsIn places d = (d .n ≤ 40) × (d .n ≤ places - d .at)
+FitsIn places d = (d .n ≤ 40) × (d .n ≤ places - d .at) × (d .n ≤ length (d .plan .row))
 
 -- where no row's condition holds
 passed : (r : Row) (rs : List Row) → verdict (r ∷ rs) ≡ passes → (r .holds ≡ false) × (verdict rs ≡ passes)
@@ -38,13 +45,23 @@ rest : (xs ys : List Row) → verdict (xs ++ ys) ≡ passes → verdict ys ≡ p
 rest [] ys e = e
 rest (x ∷ xs) ys e = rest xs ys (passed x (xs ++ ys) e .1)
 
+-- the postings matter only where the count holds
+pub fits-by : (s : Sheet) (b : Book) (count places : ℕ) (x y : Bool) → (countHolds count places ≡ true → x ≡ y)
+    → bookFits s b count places x ≡ bookFits s b count places y
+fits-by s b count places x y h = ap (λ (t : Bool). bookHolds s b && t) (by (countHolds count places) refl)
+  where
+    by : (t : Bool) → countHolds count places ≡ t → (countHolds count places && x) ≡ (countHolds count places && y)
+    by true e = ap (λ (z : Bool). countHolds count places && z) (h e)
+    by false e = rw e
+
 module _ (s : Sheet) (b : Book) (q : Request) (count places : ℕ) where
-  posted-fits : sheetHolds s ≡ true → shortOf (s .units) count places ≡ false
+  posted-fits : sheetHolds s ≡ true → shortOf (s .units) count places ≡ false → (hour : ℕ) (old new : List Amounts)
       → (5 * unitCount (s .units) ≤ 40) × (5 * unitCount (s .units) ≤ places - count)
-  posted-fits t e =
+      × (5 * unitCount (s .units) ≤ length (planOf hour (s .units) old new .row))
+  posted-fits t e hour old new =
       let some = ones-le 8 (s .units) (omega (arith, in-range s t .units-most)) in
       let free = ltb-false (min places 100000 - count) (5 * unitCount (s .units)) e in
-      (omega (arith, some), omega (arith, free))
+      (omega (arith, some), omega (arith, free), omega (arith, some, plan-length hour (s .units) old new))
 
   record-short : (r : Row) → verdict (recordRows s (q .read) r count places) ≡ passes → shortOf (s .units) count places ≡ false
   record-short r e =
@@ -79,24 +96,35 @@ module _ (s : Sheet) (b : Book) (q : Request) (count places : ℕ) where
         count)
         (cond k4 (recordedIn s b q count)
         (cond k5 (recordedIn s b q count) (postedWith s b (q .hour) openMark noResult 0 count))))))
-    by-kind true k2 k3 k4 k5 e = (omega arith, omega arith)
-    by-kind false true k3 k4 k5 e = (omega arith, omega arith)
-    by-kind false false true k4 k5 e = (omega arith, omega arith)
-    by-kind false false false true k5 e = posted-fits t (record-short _ (rest (textRows (q .answer)) _ e))
-    by-kind false false false false true e = posted-fits t (record-short _ (rest (textRows (q .answer)) _ e))
-    by-kind false false false false false e = posted-fits t (void-short e)
+    by-kind true k2 k3 k4 k5 e = (omega arith, omega arith, omega arith)
+    by-kind false true k3 k4 k5 e = (omega arith, omega arith, omega arith)
+    by-kind false false true k4 k5 e = (omega arith, omega arith, omega arith)
+    by-kind false false false true k5 e = posted-fits t (record-short _ (rest (textRows (q .answer)) _ e)) _ _ _
+    by-kind false false false false true e = posted-fits t (record-short _ (rest (textRows (q .answer)) _ e)) _ _ _
+    by-kind false false false false false e = posted-fits t (void-short e) _ _ _
 
     accepted-fits : verdict (requestRows s b q count places) ≡ passes → FitsIn places (acceptedIn s b q count)
     unfolding requestRows acceptedIn
     accepted-fits e = by-kind (eqb (q .kind) 1) (eqb (q .kind) 2) (eqb (q .kind) 3) (eqb (q .kind) 4) (eqb (q .kind) 5) e
 
-  pub decided-fits : (posted : Bool) → (decided s b q count places posted .n ≤ 40) × (decided s b q count places posted .n ≤ places - decided s b q count places posted .at)
+  decided-in : (posted : Bool) → FitsIn places (decided s b q count places posted)
   unfolding decided
-  decided-fits posted = by (verdict (rowsOf s b q count places posted)) refl
+  decided-in posted = by (verdict (rowsOf s b q count places posted)) refl
     where
       by : (v : Verdict) → verdict (rowsOf s b q count places posted) ≡ v → FitsIn places (byVerdict v (acceptedIn s b q count) (refusedWith b count (q .start)))
       by passes e =
           let a = passed _ _ e in
           let c = passed _ _ (a .1) in
           accepted-fits (not-false (sheetHolds s) (a .0)) (c .1)
-      by (fails r) e = (omega arith, omega arith)
+      by (fails r) e = (omega arith, omega arith, omega arith)
+
+  pub decided-fits : (posted : Bool) → (decided s b q count places posted .n ≤ 40) × (decided s b q count places posted .n ≤ places - decided s b q count places posted .at)
+  decided-fits posted = let d = decided-in posted in (d .0, d .1)
+
+  pub decided-rows : (posted : Bool) → decided s b q count places posted .n ≤ length (decided s b q count places posted .plan .row)
+  decided-rows posted = decided-in posted .2
+
+  pub decided-same : (x y : Bool) → (countHolds count places ≡ true → x ≡ y) → decided s b q count places x ≡ decided s b q count places y
+  unfolding decided
+  decided-same x y h =
+      ap (λ (t : Bool). byVerdict (verdict (row SheetRange (not (sheetHolds s)) ∷ row BookRange (not t) ∷ requestRows s b q count places)) (acceptedIn s b q count) (refusedWith b count (q .start))) (fits-by s b count places x y h)

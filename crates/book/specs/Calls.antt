@@ -257,13 +257,21 @@ pub record Moved : Type 0 where
   pub reply : Reply
   pub state : State
 
--- a request carried out: the postings go to the places from the count on, and every other place keeps its contents
+-- what a request comes to on a book and a journal: 12 looks at the postings up to the count
+abbrev pub decidedOn : Sheet → State → Request → Decision
+decidedOn s st q = decided s (st .book) q (st .count) (length (st .journal)) (postedHold (firstOf (st .count) (st .journal)))
+
+-- the postings go to the places from the count on, and every other place keeps its contents
+abbrev pub journalAfter : List Posting → Decision → List Posting
+journalAfter journal d = paste journal (d .at) (d .plan .row) (d .n)
+
+-- a request carried out
 unfoldable pub carriedOut : Sheet → State → Request → Moved
 carriedOut s st q =
-    let d = decided s (st .book) q (st .count) (length (st .journal)) (postedHold (firstOf (st .count) (st .journal))) in
+    let d = decidedOn s st q in
     record {
       reply = replyOf (d .answer) (d .place);
-      state = record { book = d .book; count = d .count; journal = paste (st .journal) (d .at) (d .plan .row) (d .n) };
+      state = record { book = d .book; count = d .count; journal = journalAfter (st .journal) d };
     }
 
 -- the requests of the calls; one without a text has a reading that is refused

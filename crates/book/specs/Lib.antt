@@ -6,3 +6,4 @@ pub mod Sound
 pub mod Agrees
 pub mod Demand
 pub mod Requests
+pub mod Total

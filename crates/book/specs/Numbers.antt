@@ -50,3 +50,12 @@ abbrev pub replyOf : Answer → (place : ℕ) → Reply
 replyOf Accepted place = record { number = 0; line = 0; posted = 0; place = place }
 replyOf (Posted n) place = record { number = 0; line = 0; posted = n; place = place }
 replyOf (Refused r) place = record { number = refusalNumber r; line = refusalLine r; posted = 0; place = place }
+
+abbrev pub numberOf : Answer → ℕ
+numberOf a = replyOf a 0 .number
+
+abbrev pub lineOf : Answer → ℕ
+lineOf a = replyOf a 0 .line
+
+abbrev pub postedOf : Answer → ℕ
+postedOf a = replyOf a 0 .posted

@@ -1,11 +1,14 @@
--- The requests of the calls by name, and a list of calls in numbers: six for each call, its kind, hour, unit, the unit moved to, kWh, and where
--- its record starts in the text. Kinds 1 to 5 are take, release, move, settle and restate; every other number is void.
-use Prim.Native.Nat.{ℕ, _+_, _*_, _/_}
+-- The requests of the calls by name, and a list of calls in numbers: eight for each call, its kind, hour, unit, the unit moved to, kWh, the part
+-- of the lent text that it is given (from `begin` to before `end`), and where its record starts in that part. Kinds 1 to 5 are take, release,
+-- move, settle and restate; every other number is void.
+use Prim.Native.Nat.{ℕ, _+_, _-_, _*_, _/_}
 use mathlib.Core.Bool.{cond}
 use mathlib.Core.List.{List}
 use lib.Dec.{ltb, eqb}
-use lib.ListN.{length, getD}
+use lib.ListN.{length, getD, drop, take as firstOf}
+use Rattle.finite.specs.Finite.{tabulate}
 use Rattle.sheet.specs.declared.Sheet.{Sheet}
+use Rattle.book.specs.declared.Asked.{Asked}
 use Rattle.book.specs.declared.Request.{Request}
 use Rattle.book.specs.Ledger.{Call, take, release, move, settle, restate, void}
 use Rattle.book.specs.Calls.{plainRequest, recordRequest, requestOf}
@@ -29,23 +32,48 @@ unfoldable pub restateRequest : Sheet → List ℕ → (start : ℕ) → Request
 restateRequest s text start = recordRequest s 5 text start
 
 abbrev pub callNumbers : ℕ
-callNumbers = 6
+callNumbers = 8
 
-unfoldable pub callOf : List ℕ → (kind hour unit to kwh start : ℕ) → Call
-callOf text kind hour unit to kwh start =
-    cond (eqb kind 1) (take hour unit kwh)
-    (cond (eqb kind 2) (release hour unit kwh)
-    (cond (eqb kind 3) (move hour unit to kwh)
-    (cond (eqb kind 4) (settle text start)
-    (cond (eqb kind 5) (restate text start) (void hour)))))
+-- the part of a text from `begin` to before `end`, as far as the text goes
+unfoldable pub partOf : List ℕ → (begin end : ℕ) → List ℕ
+partOf text begin end = firstOf (end - begin) (drop begin text)
 
--- call i of the numbers; past the last whole group none is asked for
+-- the call that numbers ask for
+unfoldable pub callFor : List ℕ → Asked → Call
+callFor text a =
+    cond (eqb (a .kind) 1) (take (a .hour) (a .unit) (a .kwh))
+    (cond (eqb (a .kind) 2) (release (a .hour) (a .unit) (a .kwh))
+    (cond (eqb (a .kind) 3) (move (a .hour) (a .unit) (a .to) (a .kwh))
+    (cond (eqb (a .kind) 4) (settle (partOf text (a .begin) (a .end)) (a .start))
+    (cond (eqb (a .kind) 5) (restate (partOf text (a .begin) (a .end)) (a .start)) (void (a .hour))))))
+
+-- the eight numbers from a place on; a place past the end has 0
+abbrev pub askedFrom : List ℕ → ℕ → Asked
+askedFrom calls at =
+    record {
+      kind = getD calls at 0;
+      hour = getD calls (at + 1) 0;
+      unit = getD calls (at + 2) 0;
+      to = getD calls (at + 3) 0;
+      kwh = getD calls (at + 4) 0;
+      begin = getD calls (at + 5) 0;
+      end = getD calls (at + 6) 0;
+      start = getD calls (at + 7) 0;
+    }
+
+abbrev pub noneAsked : Asked
+noneAsked = record { kind = 0; hour = 0; unit = 0; to = 0; kwh = 0; begin = 0; end = 0; start = 0 }
+
+-- group i of the numbers; past the last whole group none is asked for
+unfoldable pub askedAt : List ℕ → ℕ → Asked
+askedAt calls i = cond (ltb i (length calls / callNumbers)) (askedFrom calls (callNumbers * i)) noneAsked
+
 unfoldable pub callAt : (calls text : List ℕ) → (i : ℕ) → Call
-callAt calls text i =
-    cond (ltb i (length calls / callNumbers))
-    (callOf text (getD calls (6 * i) 0) (getD calls (6 * i + 1) 0) (getD calls (6 * i + 2) 0) (getD calls (6 * i + 3) 0) (getD calls (6 * i + 4) 0)
-    (getD calls (6 * i + 5) 0))
-    (void 0)
+callAt calls text i = callFor text (askedAt calls i)
 
 unfoldable pub requestAt : Sheet → (calls text : List ℕ) → (i : ℕ) → Request
 requestAt s calls text i = requestOf s (callAt calls text i)
+
+-- the first n calls of the numbers
+abbrev pub callsIn : (calls text : List ℕ) → (n : ℕ) → List Call
+callsIn calls text n = tabulate n (callAt calls text)

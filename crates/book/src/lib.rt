@@ -1,19 +1,23 @@
 // The calls on the book: what each is refused for, and what an accepted one changes and posts. The functions over the lent journal
 // stand in the crate above; what they post is decided here.
 ghost use mathlib.Core.Path.{_≡_};
-ghost use mathlib.Core.Bool.{true};
+ghost use mathlib.Core.Bool.{true, _&&_};
+ghost use lib.Dec.{leb};
 ghost use Prim.Native.Nat.{_≤_, min};
 ghost use Rattle.state.specs.Ranges.{bookHolds};
 ghost use Rattle.sheet.specs.Ranges.{sheetHolds};
 ghost use Rattle.settlement.specs.Ranges.{HourRead};
 ghost use Rattle.book.specs.Calls.{badHour, unknownUnits, shortOf, isSettled, heldKwh, lastKwh, withHeld, noPlan, refusedWith, changedTo, postedWith, takeDecided, releaseDecided, moveDecided, voidDecided, recordDecided, settleDecided, restateDecided, requestDecided, bookFits, decided, outcomeOf, plainRequest, recordRequest, requestOf};
 ghost use Rattle.book.specs.Ledger.{void};
-ghost use Rattle.book.specs.Requests.{takeRequest, releaseRequest, moveRequest, voidRequest, settleRequest, restateRequest, callOf, requestAt};
+ghost use Rattle.book.specs.Numbers.{refusalNumber, refusalLine, numberOf, lineOf, postedOf};
+ghost use Rattle.book.specs.Total.{noTotal, totalDecided};
+ghost use Rattle.book.specs.Requests.{takeRequest, releaseRequest, moveRequest, voidRequest, settleRequest, restateRequest, partOf, callFor, askedAt, requestAt};
 ghost use Rattle.book.specs.Sound.{PostReady, Sound, WellRead};
 use energy::HubKwh;
 use lines::ReadAnswer;
 use lines::TextRefusal;
 use postings::Plan;
+use postings::Scanned;
 use record::Record;
 use settlement::HourResult;
 use sheet::Sheet;
@@ -81,6 +85,19 @@ pub struct Request {
     pub read: Record,
 }
 
+// A call in numbers, as a list of calls has it: the kind as above, and the part of the lent text that the call is given, from `begin` to before
+// `end`; a record starts at `start` in that part.
+pub struct Asked {
+    pub kind: u64,
+    pub hour: u64,
+    pub unit: u64,
+    pub to: u64,
+    pub kwh: u64,
+    pub begin: u64,
+    pub end: u64,
+    pub start: u64,
+}
+
 // What a call comes to: n postings of the plan, stored from place `at` on; the answer and the text place; the count and the book after it.
 pub struct Decision {
     pub plan: Plan,
@@ -98,6 +115,12 @@ pub struct Outcome {
     pub place: u64,
     pub count: u64,
     pub book: Book,
+}
+
+// What a total call answers: the verdict, and the total, 0 where it is refused.
+pub struct TotalAnswer {
+    pub verdict: Verdict,
+    pub sum: i64,
 }
 
 fn no_plan() -> Plan
@@ -611,19 +634,24 @@ pub fn restate_request(sheet: Sheet, text: &[u8], start: u64) -> Request
     record_request(sheet, 5, text, start)
 }
 
-// A call of a list in its numbers.
-fn request_of(
-    sheet: Sheet,
-    text: &[u8],
-    kind: u64,
-    hour: u64,
-    unit: u64,
-    to: u64,
-    kwh: u64,
-    start: u64,
-) -> Request
-    ensures { λ r. ⌜ r ≡ requestOf sheet (callOf (now (text .entry)) kind hour unit to kwh start) ⌝ }
+// The part of a text from `begin` to before `end`, as far as the text goes.
+fn part_of(text: &[u8], begin: u64, end: u64) -> &[u8]
+    ensures { λ r. ⌜ now r ≡ partOf (now (text .entry)) begin end ⌝ }
 {
+    let last = least(end, text.len() as u64);
+    let first = least(begin, last);
+    &text[first as usize..last as usize]
+}
+
+// The request that numbers ask for.
+pub fn request_of(sheet: Sheet, text: &[u8], asked: Asked) -> Request
+    ensures { λ r. ⌜ r ≡ requestOf sheet (callFor (now (text .entry)) asked) ⌝ }
+{
+    let kind = asked.kind;
+    let hour = asked.hour;
+    let unit = asked.unit;
+    let kwh = asked.kwh;
+    let start = asked.start;
     if kind == 1 {
         return plain_request(1, hour, unit, 0, kwh);
     }
@@ -631,30 +659,179 @@ fn request_of(
         return plain_request(2, hour, unit, 0, kwh);
     }
     if kind == 3 {
-        return plain_request(3, hour, unit, to, kwh);
+        return plain_request(3, hour, unit, asked.to, kwh);
     }
     if kind == 4 {
-        return record_request(sheet, 4, text, start);
+        return record_request(sheet, 4, part_of(text, asked.begin, asked.end), start);
     }
     if kind == 5 {
-        return record_request(sheet, 5, text, start);
+        return record_request(sheet, 5, part_of(text, asked.begin, asked.end), start);
     }
     plain_request(6, hour, 0, 0, 0)
 }
 
-// Call i of a list of calls in numbers, six for each.
+// Group i of a list of calls in numbers, eight for each; past the last whole group none is asked for.
+pub fn asked_at(calls: &[u64], i: usize) -> Asked
+    ensures { λ r. ⌜ r ≡ askedAt (now (calls .entry)) i ⌝ }
+{
+    if i < calls.len() / 8 {
+        let at = 8 * i;
+        return Asked {
+            kind: calls[at],
+            hour: calls[at + 1],
+            unit: calls[at + 2],
+            to: calls[at + 3],
+            kwh: calls[at + 4],
+            begin: calls[at + 5],
+            end: calls[at + 6],
+            start: calls[at + 7],
+        };
+    }
+    Asked {
+        kind: 0,
+        hour: 0,
+        unit: 0,
+        to: 0,
+        kwh: 0,
+        begin: 0,
+        end: 0,
+        start: 0,
+    }
+}
+
+// The request of call i of a list.
 pub fn request_at(sheet: Sheet, calls: &[u64], text: &[u8], i: usize) -> Request
     ensures { λ r. ⌜ r ≡ requestAt sheet (now (calls .entry)) (now (text .entry)) i ⌝ }
 {
-    if i < calls.len() / 6 {
-        let at = 6 * i;
-        let kind = calls[at];
-        let hour = calls[at + 1];
-        let unit = calls[at + 2];
-        let to = calls[at + 3];
-        let kwh = calls[at + 4];
-        let start = calls[at + 5];
-        return request_of(sheet, text, kind, hour, unit, to, kwh, start);
+    let asked = asked_at(calls, i);
+    request_of(sheet, text, asked)
+}
+
+// Document 01's number of a refusal.
+pub fn refusal_number(refusal: Refusal) -> u64
+    ensures { λ r. ⌜ r ≡ refusalNumber refusal ⌝ }
+{
+    match refusal {
+        Refusal::Text(t) => lines::text_number(t),
+        Refusal::SheetRange => 9,
+        Refusal::HourRange => 10,
+        Refusal::UnitUnknown => 11,
+        Refusal::BookRange => 12,
+        Refusal::HourSettled => 20,
+        Refusal::NoAmount => 21,
+        Refusal::OverOffer => 22,
+        Refusal::HeldLess => 23,
+        Refusal::SameUnit => 24,
+        Refusal::Minutes => 31,
+        Refusal::Readings => 32,
+        Refusal::Proportions => 33,
+        Refusal::HourStands => 40,
+        Refusal::HourOpen => 41,
+        Refusal::NoPlaces => 42,
     }
-    plain_request(6, 0, 0, 0, 0)
+}
+
+// The line of a refusal 1 to 4, otherwise 0.
+pub fn refusal_line(refusal: Refusal) -> u64
+    ensures { λ r. ⌜ r ≡ refusalLine refusal ⌝ }
+{
+    match refusal {
+        Refusal::Text(t) => lines::text_line(t),
+        Refusal::SheetRange => 0,
+        Refusal::HourRange => 0,
+        Refusal::UnitUnknown => 0,
+        Refusal::BookRange => 0,
+        Refusal::HourSettled => 0,
+        Refusal::NoAmount => 0,
+        Refusal::OverOffer => 0,
+        Refusal::HeldLess => 0,
+        Refusal::SameUnit => 0,
+        Refusal::Minutes => 0,
+        Refusal::Readings => 0,
+        Refusal::Proportions => 0,
+        Refusal::HourStands => 0,
+        Refusal::HourOpen => 0,
+        Refusal::NoPlaces => 0,
+    }
+}
+
+// An answer in numbers: the refusal's or 0, its line, and how many postings were appended.
+pub fn number_of(answer: Answer) -> u64
+    ensures { λ r. ⌜ r ≡ numberOf answer ⌝ }
+{
+    match answer {
+        Answer::Accepted => 0,
+        Answer::Posted(_) => 0,
+        Answer::Refused(refusal) => refusal_number(refusal),
+    }
+}
+
+pub fn line_of(answer: Answer) -> u64
+    ensures { λ r. ⌜ r ≡ lineOf answer ⌝ }
+{
+    match answer {
+        Answer::Accepted => 0,
+        Answer::Posted(_) => 0,
+        Answer::Refused(refusal) => refusal_line(refusal),
+    }
+}
+
+pub fn posted_of(answer: Answer) -> u64
+    ensures { λ r. ⌜ r ≡ postedOf answer ⌝ }
+{
+    match answer {
+        Answer::Accepted => 0,
+        Answer::Posted(n) => n,
+        Answer::Refused(_) => 0,
+    }
+}
+
+fn no_total(refusal: Refusal) -> TotalAnswer
+    ensures { λ r. ⌜ r ≡ noTotal refusal ⌝ }
+{
+    TotalAnswer {
+        verdict: Verdict::Refused(refusal),
+        sum: 0,
+    }
+}
+
+fn item_known(item: u64) -> bool
+    ensures { λ r. ⌜ r ≡ (leb 1 item && leb item 5) ⌝ }
+{
+    if item < 1 {
+        return false;
+    }
+    item <= 5
+}
+
+// What a total call answers, from what was seen of the postings up to the count.
+pub fn total_of(
+    sheet: Sheet,
+    book: Book,
+    unit: u64,
+    item: u64,
+    count: u64,
+    places: usize,
+    seen: Scanned,
+) -> TotalAnswer
+    ensures { λ r. ⌜ r ≡ totalDecided sheet book unit item count places (seen .good) (seen .sum) ⌝ }
+{
+    let good = seen.good;
+    let sum = seen.sum;
+    if !sheet::sheet_holds(sheet) {
+        return no_total(Refusal::SheetRange);
+    }
+    if !book_fits(sheet, book, count, places, good) {
+        return no_total(Refusal::BookRange);
+    }
+    if !units::has_unit(sheet.units, unit) {
+        return no_total(Refusal::UnitUnknown);
+    }
+    if !item_known(item) {
+        return no_total(Refusal::UnitUnknown);
+    }
+    TotalAnswer {
+        verdict: Verdict::Accepted,
+        sum: sum,
+    }
 }

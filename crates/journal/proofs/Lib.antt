@@ -1,3 +1,6 @@
 pub mod Again
+pub mod OwnList
 pub mod Posted
+pub mod Turned
 pub mod Typed
+pub mod Listed

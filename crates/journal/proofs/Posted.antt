@@ -1,18 +1,32 @@
--- What is posted keeps the list's length; no more postings are looked at than the list has.
-use mathlib.Core.Path.{_≡_, refl, _∙_, ap}
+-- What a call does over the list is what its definition says: the scan tells whether the postings up to the count hold wherever that matters,
+-- and rows stored one after the other are the rows pasted in.
+-- Assumes nothing.
+use mathlib.Core.Path.{_≡_, refl, _∙_, ap, sym}
+use mathlib.Core.Bool.{Bool, true, false}
 use mathlib.Core.List.{List}
-use Prim.Native.Nat.{ℕ, zero, suc, _+_, _≤_}
+use Prim.Native.Nat.{ℕ, zero, suc, _+_, _-_, _≤_, _<_}
 use native.Mathlib.Omega.{arith}
-use lib.ListN.{length, length-set}
+use lib.IntN.{ℤ}
+use lib.ListN.{length, set, length-set, take}
+use lib.Seq.{paste, paste-zero, paste-suc}
+use Rattle.finite.proofs.Tests.{and-left, and-right}
 use Rattle.sheet.specs.declared.Sheet.{Sheet}
+use Rattle.sheet.specs.Ranges.{sheetHolds}
 use Rattle.state.specs.declared.Book.{Book}
+use Rattle.state.specs.Ranges.{bookHolds}
 use Rattle.postings.specs.declared.Posting.{Posting}
 use Rattle.postings.specs.declared.Plan.{Plan}
-use Rattle.postings.specs.Journal.{coveredBy}
+use Rattle.postings.specs.Journal.{noPosting, coveredBy, countHolds, postedHold, totalOf, scannedTo}
 use Rattle.postings.specs.Plan.{rowOf}
+use Rattle.postings.proofs.Counted.{count-list, count-most, covered-all}
+use Rattle.postings.proofs.Scan.{scan-good, scan-sum}
 use Rattle.book.specs.declared.Request.{Request}
-use Rattle.book.specs.Calls.{outcomeOf}
-use Rattle.journal.specs.Journal.{posted, decidedOn, Performed, performed}
+use Rattle.book.specs.declared.Decision.{Decision}
+use Rattle.book.specs.declared.Verdict.the-variants.{Accepted}
+use Rattle.book.specs.Calls.{bookFits, decided, decidedOn, journalAfter, outcomeOf}
+use Rattle.book.specs.Total.{totalBy, itemOf, totalDecided, totalOn}
+use Rattle.book.proofs.Places.{decided-fits, decided-rows, fits-by, decided-same}
+use Rattle.journal.specs.Journal.{scannedIn, posted, Performed, performed}
 
 pub length-posted : (l : List Posting) (at : ℕ) (p : Plan) (k : ℕ) → length (posted l at p k) ≡ length l
 unfolding posted
@@ -23,9 +37,69 @@ pub covered-le : (count len : ℕ) → coveredBy count len ≤ len
 unfolding coveredBy
 covered-le count len = omega arith
 
--- a call from its parts
-pub performed-is : (l : List Posting) (count : ℕ) (s : Sheet) (b : Book) (q : Request) (zs : List Posting)
-    → zs ≡ posted l (decidedOn l count s b q .at) (decidedOn l count s b q .plan) (decidedOn l count s b q .n)
-    → _≡_ {A = Performed} (record { outcome = outcomeOf (decidedOn l count s b q); list = zs }) (performed l count s b q)
-unfolding performed
-performed-is l count s b q zs e = ap (λ (z : List Posting). record { outcome = outcomeOf (decidedOn l count s b q); list = z }) e
+-- rows stored one after the other are pasted in
+posted-paste : (l : List Posting) (at : ℕ) (p : Plan) (n : ℕ) → n ≤ length l - at → n ≤ length (p .row) → posted l at p n ≡ paste l at (p .row) n
+unfolding posted
+posted-paste l at p zero h r = paste-zero l at (p .row)
+posted-paste l at p (suc k) h r =
+    ap (λ (z : List Posting). set z (at + k) (rowOf p k)) (posted-paste l at p k (omega arith) (omega arith))
+    ∙ paste-suc l at (p .row) k noPosting (omega arith) r
+
+module _ (l : List Posting) (count : ℕ) where
+  -- where the count holds, the scan sees all postings up to it
+  seen-to : (unit item : ℕ) → countHolds count (length l) ≡ true → scannedIn l count unit item ≡ scannedTo l unit item count
+  seen-to unit item t = ap (scannedTo l unit item) (covered-all count (length l) t)
+
+  seen-good : (unit item : ℕ) → countHolds count (length l) ≡ true → scannedIn l count unit item .good ≡ postedHold (take count l)
+  seen-good unit item t = ap (λ s. s .good) (seen-to unit item t) ∙ scan-good l unit item count (count-list count (length l) t)
+
+  module _ (s : Sheet) (b : Book) where
+    -- what the code decides by its scan
+    abbrev pub decidedBy : Request → Decision
+    decidedBy q = decided s b q count (length l) (scannedIn l count 0 0 .good)
+
+    decided-is : (q : Request) → decidedBy q ≡ decidedOn s (record { book = b; count = count; journal = l }) q
+    decided-is q = decided-same s b q count (length l) _ _ (seen-good 0 0)
+
+    posted-is : (q : Request) → posted l (decidedBy q .at) (decidedBy q .plan) (decidedBy q .n) ≡ journalAfter l (decidedBy q)
+    posted-is q =
+        posted-paste l (decidedBy q .at) (decidedBy q .plan) (decidedBy q .n)
+        (decided-fits s b q count (length l) (scannedIn l count 0 0 .good) .1) (decided-rows s b q count (length l) (scannedIn l count 0 0 .good))
+
+    -- a call from its parts
+    pub performed-is : (q : Request) (zs : List Posting) → zs ≡ posted l (decidedBy q .at) (decidedBy q .plan) (decidedBy q .n)
+        → _≡_ {A = Performed} (record { outcome = outcomeOf (decidedBy q); list = zs }) (performed l count s b q)
+    unfolding performed
+    performed-is q zs e =
+        ap (λ (z : List Posting). record { outcome = outcomeOf (decidedBy q); list = z }) (e ∙ posted-is q)
+        ∙ ap (λ (d : Decision). record { outcome = outcomeOf d; list = journalAfter l d }) (decided-is q)
+
+    -- a call keeps the list's length
+    pub length-performed : (q : Request) → length (performed l count s b q .list) ≡ length l
+    length-performed q =
+        ap (λ (p : Performed). length (p .list)) (sym (performed-is q (posted l (decidedBy q .at) (decidedBy q .plan) (decidedBy q .n)) refl))
+        ∙ length-posted l (decidedBy q .at) (decidedBy q .plan) (decidedBy q .n)
+
+    -- a total is asked of a sum only where 12 does not hold
+    total-same : (sheetFits fits known : Bool) (x y : ℤ) → (fits ≡ true → x ≡ y) → totalBy sheetFits fits known x ≡ totalBy sheetFits fits known y
+    unfolding totalBy
+    total-same false fits known x y h = refl
+    total-same true false known x y h = refl
+    total-same true true false x y h = refl
+    total-same true true true x y h = λ i. record { verdict = Accepted; sum = h refl i }
+
+    pub total-is : (unit item : ℕ)
+        → totalDecided s b unit item count (length l) (scannedIn l count unit item .good) (scannedIn l count unit item .sum)
+        ≡ totalOn s (record { book = b; count = count; journal = l }) unit item
+    unfolding totalOn totalDecided
+    total-is unit item =
+        ap (λ (f : Bool). totalBy (sheetHolds s) f (itemOf s unit item) (scannedIn l count unit item .sum))
+        (fits-by s b count (length l) (scannedIn l count unit item .good) (postedHold (take count l)) (seen-good unit item))
+        ∙ total-same (sheetHolds s) (bookFits s b count (length l) (postedHold (take count l))) (itemOf s unit item) _ _ sums
+      where
+        sums : bookFits s b count (length l) (postedHold (take count l)) ≡ true → scannedIn l count unit item .sum ≡ totalOf unit item (take count l)
+        sums t =
+            let rest = and-right (bookHolds s b) _ t in
+            let counted = and-left (countHolds count (length l)) _ rest in
+            ap (λ z. z .sum) (seen-to unit item counted)
+            ∙ scan-sum l unit item count (count-list count (length l) counted) (count-most count (length l) counted) (and-right (countHolds count (length l)) _ rest)

@@ -12,10 +12,12 @@ use Rattle.postings.specs.declared.Scanned.{Scanned}
 use Rattle.postings.specs.declared.Plan.{Plan}
 use Rattle.sheet.specs.declared.Sheet.{Sheet}
 use Rattle.state.specs.declared.Book.{Book}
+use Rattle.book.specs.declared.Asked.{Asked}
 use Rattle.book.specs.declared.Request.{Request}
 use Rattle.book.specs.declared.Decision.{Decision}
 use Rattle.book.specs.declared.Outcome.{Outcome}
-use Rattle.journal.specs.declared.TotalAnswer.{TotalAnswer}
+use Rattle.book.specs.declared.TotalAnswer.{TotalAnswer}
+use Rattle.journal.specs.declared.Ran.{Ran}
 use Rattle.postings.proofs.Scanned as C
 use Rattle.postings.proofs.Scanned.Laws as C′
 use Rattle.postings.proofs.Plan as P
@@ -24,14 +26,18 @@ use Rattle.sheet.proofs.Sheet as Z
 use Rattle.sheet.proofs.Sheet.Laws as Z′
 use Rattle.state.proofs.Book as B
 use Rattle.state.proofs.Book.Laws as B′
+use Rattle.book.proofs.Asked as D
+use Rattle.book.proofs.Asked.Laws as D′
 use Rattle.book.proofs.Request as K
 use Rattle.book.proofs.Request.Laws as K′
 use Rattle.book.proofs.Decision as S
 use Rattle.book.proofs.Decision.Laws as S′
 use Rattle.book.proofs.Outcome as O
 use Rattle.book.proofs.Outcome.Laws as O′
-use Rattle.journal.proofs.TotalAnswer as U
-use Rattle.journal.proofs.TotalAnswer.Laws as U′
+use Rattle.book.proofs.TotalAnswer as U
+use Rattle.book.proofs.TotalAnswer.Laws as U′
+use Rattle.journal.proofs.Ran as R
+use Rattle.journal.proofs.Ran.Laws as R′
 
 module _ {M : Type 1} (𝓤 : URA M) (H : Heap 𝓤) (A : Atoms 𝓤) (W : Given 𝓤 H A) where
   pub typed-scanned : (d : Scanned) (v : Val) → Is C.the-row d (v ∷ []) → Holds (hasTy C′.mir v) × WT v
@@ -46,6 +52,9 @@ module _ {M : Type 1} (𝓤 : URA M) (H : Heap 𝓤) (A : Atoms 𝓤) (W : Given
   pub typed-book : (d : Book) (v : Val) → Is B.the-row d (v ∷ []) → Holds (hasTy B′.mir v) × WT v
   typed-book d v is = LL.lawful B.the-type B′.the-laws 𝓤 H A W .typed d (v ∷ []) is .0
 
+  pub typed-asked : (d : Asked) (v : Val) → Is D.the-row d (v ∷ []) → Holds (hasTy D′.mir v) × WT v
+  typed-asked d v is = LL.lawful D.the-type D′.the-laws 𝓤 H A W .typed d (v ∷ []) is .0
+
   pub typed-request : (d : Request) (v : Val) → Is K.the-row d (v ∷ []) → Holds (hasTy K′.mir v) × WT v
   typed-request d v is = LL.lawful K.the-type K′.the-laws 𝓤 H A W .typed d (v ∷ []) is .0
 
@@ -57,3 +66,6 @@ module _ {M : Type 1} (𝓤 : URA M) (H : Heap 𝓤) (A : Atoms 𝓤) (W : Given
 
   pub typed-totalanswer : (d : TotalAnswer) (v : Val) → Is U.the-row d (v ∷ []) → Holds (hasTy U′.mir v) × WT v
   typed-totalanswer d v is = LL.lawful U.the-type U′.the-laws 𝓤 H A W .typed d (v ∷ []) is .0
+
+  pub typed-ran : (d : Ran) (v : Val) → Is R.the-row d (v ∷ []) → Holds (hasTy R′.mir v) × WT v
+  typed-ran d v is = LL.lawful R.the-type R′.the-laws 𝓤 H A W .typed d (v ∷ []) is .0

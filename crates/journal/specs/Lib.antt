@@ -1,2 +1,2 @@
 pub mod Journal
-pub mod Total
+pub mod Run

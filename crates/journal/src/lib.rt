@@ -1,18 +1,19 @@
 // The calls over the lent journal, a list of postings and a count of them. What a call comes to is decided in the crate `book`; here the
 // postings are looked at and appended.
 ghost use mathlib.Core.Path.{_≡_};
-ghost use mathlib.Core.Bool.{_&&_};
-ghost use lib.Dec.{leb};
 ghost use Prim.Native.Nat.{ℕ, _≤_, _-_};
 ghost use lib.ListN.{length};
 ghost use Rattle.book.specs.Sound.{WellRead};
-ghost use Rattle.book.specs.Requests.{takeRequest, releaseRequest, moveRequest, settleRequest, voidRequest};
+ghost use Rattle.book.specs.Calls.{State, requestOf};
+ghost use Rattle.book.specs.Total.{totalOn};
+ghost use Rattle.book.specs.Requests.{takeRequest, releaseRequest, moveRequest, settleRequest, restateRequest, voidRequest, callFor, callsIn};
+ghost use Rattle.book.specs.Demand.{Demand};
 ghost use Rattle.journal.specs.Journal.{scannedIn, posted, Performed, performed};
-ghost use Rattle.journal.specs.Total.{totalBy, totalDecided, totalIn};
+ghost use Rattle.journal.specs.Run.{Running, startRan, turnsOf, handedOn, answered, repliesIn, turned, ranAll, dayOf};
+use book::Asked;
 use book::Outcome;
-use book::Refusal;
 use book::Request;
-use book::Verdict;
+use book::TotalAnswer;
 use postings::Plan;
 use postings::Posting;
 use postings::Scanned;
@@ -119,6 +120,20 @@ pub fn settle(
     perform(list, count, sheet, book, request)
 }
 
+pub fn restate(
+    list: &mut [Posting],
+    count: u64,
+    sheet: Sheet,
+    book: Book,
+    text: &[u8],
+    start: u64,
+) -> Outcome
+    ensures { λ r. ⌜ record { outcome = r; list = now (list .exit) } ≡ performed (now (list .entry)) count sheet book (restateRequest sheet (now (text .entry)) start) ⌝ }
+{
+    let request = book::restate_request(sheet, text, start);
+    perform(list, count, sheet, book, request)
+}
+
 pub fn void_hour(list: &mut [Posting], count: u64, sheet: Sheet, book: Book, hour: u64) -> Outcome
     ensures { λ r. ⌜ record { outcome = r; list = now (list .exit) } ≡ performed (now (list .entry)) count sheet book (voidRequest hour) ⌝ }
 {
@@ -126,78 +141,19 @@ pub fn void_hour(list: &mut [Posting], count: u64, sheet: Sheet, book: Book, hou
     perform(list, count, sheet, book, request)
 }
 
-// What a total call answers: the verdict, and the total, 0 where it is refused.
-pub struct TotalAnswer {
-    pub verdict: Verdict,
-    pub sum: i64,
-}
-
-fn both(a: bool, b: bool) -> bool
-    ensures { λ r. ⌜ r ≡ (a && b) ⌝ }
-{
-    if a {
-        return b;
-    }
-    false
-}
-
-fn item_known(item: u64) -> bool
-    ensures { λ r. ⌜ r ≡ (leb 1 item && leb item 5) ⌝ }
-{
-    if item < 1 {
-        return false;
-    }
-    item <= 5
-}
-
-fn total_by(fits: bool, holds: bool, known: bool, seen: Scanned) -> TotalAnswer
-    ensures { λ r. ⌜ r ≡ totalBy fits holds known seen ⌝ }
-{
-    let sum = seen.sum;
-    if !fits {
-        return TotalAnswer {
-            verdict: Verdict::Refused(Refusal::SheetRange),
-            sum: 0,
-        };
-    }
-    if !holds {
-        return TotalAnswer {
-            verdict: Verdict::Refused(Refusal::BookRange),
-            sum: 0,
-        };
-    }
-    if !known {
-        return TotalAnswer {
-            verdict: Verdict::Refused(Refusal::UnitUnknown),
-            sum: 0,
-        };
-    }
-    TotalAnswer {
-        verdict: Verdict::Accepted,
-        sum: sum,
-    }
-}
-
-fn total_of(
+// Any call, given in numbers.
+pub fn call(
+    list: &mut [Posting],
+    count: u64,
     sheet: Sheet,
     book: Book,
-    unit: u64,
-    item: u64,
-    count: u64,
-    places: usize,
-    seen: Scanned,
-) -> TotalAnswer
-    ensures { λ r. ⌜ r ≡ totalDecided sheet book unit item count places seen ⌝ }
+    text: &[u8],
+    asked: Asked,
+) -> Outcome
+    ensures { λ r. ⌜ record { outcome = r; list = now (list .exit) } ≡ performed (now (list .entry)) count sheet book (requestOf sheet (callFor (now (text .entry)) asked)) ⌝ }
 {
-    let fits = sheet::sheet_holds(sheet);
-    let held = state::book_holds(sheet, book);
-    let counted = postings::count_holds(count, places);
-    let good = both(counted, seen.good);
-    let holds = both(held, good);
-    let member = units::has_unit(sheet.units, unit);
-    let listed = item_known(item);
-    let known = both(member, listed);
-    total_by(fits, holds, known, seen)
+    let request = book::request_of(sheet, text, asked);
+    perform(list, count, sheet, book, request)
 }
 
 // The total of the postings of a unit and an item, up to the count.
@@ -209,9 +165,103 @@ pub fn total(
     unit: u64,
     item: u64,
 ) -> TotalAnswer
-    ensures { λ r. ⌜ (r ≡ totalIn (now (list .entry)) count sheet book unit item) × (now (list .exit) ≡ now (list .entry)) ⌝ }
+    ensures { λ r. ⌜ (r ≡ totalOn sheet (record { book = book; count = count; journal = now (list .entry) }) unit item) × (now (list .exit) ≡ now (list .entry)) ⌝ }
 {
     let places = list.len();
     let seen = scan(list, count, unit, item);
-    total_of(sheet, book, unit, item, count, places, seen)
+    book::total_of(sheet, book, unit, item, count, places, seen)
+}
+
+// What a call of a list hands on to the next.
+pub struct Ran {
+    pub book: Book,
+    pub count: u64,
+}
+
+fn started() -> Ran
+    ensures { λ r. ⌜ r ≡ startRan ⌝ }
+{
+    let book = state::empty_book();
+    Ran { book, count: 0 }
+}
+
+// As many calls as there are whole groups of eight numbers, and places for four numbers of an answer.
+fn turns(calls: usize, answers: usize) -> usize
+    ensures { λ r. ⌜ r ≡ turnsOf calls answers ⌝ }
+{
+    let groups = calls / 8;
+    let room = answers / 4;
+    if groups < room {
+        return groups;
+    }
+    room
+}
+
+// The four numbers of an answer are stored in their places, where there are such; the book and the count are handed on.
+fn kept(answers: &mut [u64], i: usize, o: Outcome) -> Ran
+    ensures { λ r. ⌜ (r ≡ handedOn o) × (now (answers .exit) ≡ answered (now (answers .entry)) i o) ⌝ }
+{
+    let answer = o.answer;
+    let book = o.book;
+    if i < answers.len() / 4 {
+        let at = 4 * i;
+        answers[at] = book::number_of(answer);
+        answers[at + 1] = book::line_of(answer);
+        answers[at + 2] = book::posted_of(answer);
+        answers[at + 3] = o.place;
+    }
+    Ran {
+        book,
+        count: o.count,
+    }
+}
+
+// Call i of a list of calls.
+fn turn(
+    list: &mut [Posting],
+    sheet: Sheet,
+    calls: &[u64],
+    text: &[u8],
+    answers: &mut [u64],
+    i: usize,
+    ran: Ran,
+) -> Ran
+    ensures { λ r. ⌜ record { list = now (list .exit); answers = now (answers .exit); ran = r } ≡ turned sheet (now (calls .entry)) (now (text .entry)) (record { list = now (list .entry); answers = now (answers .entry); ran = ran }) i ⌝ }
+{
+    let request = book::request_at(sheet, calls, text, i);
+    let o = perform(list, ran.count, sheet, ran.book, request);
+    kept(answers, i, o)
+}
+
+// A list of calls, on the empty book and a count of 0.
+pub fn run(
+    list: &mut [Posting],
+    sheet: Sheet,
+    calls: &[u64],
+    text: &[u8],
+    answers: &mut [u64],
+) -> Ran
+    ensures { λ r. ⌜ (record { list = now (list .exit); answers = now (answers .exit); ran = r } ≡ ranAll sheet (now (calls .entry)) (now (text .entry)) (record { list = now (list .entry); answers = now (answers .entry); ran = startRan }) (turnsOf (length (now (calls .entry))) (length (now (answers .entry))))) × Demand sheet (now (list .entry)) (callsIn (now (calls .entry)) (now (text .entry)) (turnsOf (length (now (calls .entry))) (length (now (answers .entry))))) (repliesIn (now (answers .exit)) (turnsOf (length (now (calls .entry))) (length (now (answers .entry))))) (record { book = r .book; count = r .count; journal = now (list .exit) }) ⌝ }
+{
+    let n = turns(calls.len(), answers.len());
+    let mut ran = started();
+    let mut i: usize = 0;
+    while i < n {
+        ran = turn(list, sheet, calls, text, answers, i, ran);
+        i += 1;
+    }
+    ran
+}
+
+// A list of calls over a list of 2,000 places of its own.
+pub fn day(sheet: Sheet, calls: &[u64], text: &[u8], answers: &mut [u64]) -> Ran
+    ensures { λ r. ⌜ (r ≡ dayOf sheet (now (calls .entry)) (now (text .entry)) (now (answers .entry)) .ran) × (now (answers .exit) ≡ dayOf sheet (now (calls .entry)) (now (text .entry)) (now (answers .entry)) .answers) ⌝ }
+{
+    let mut list = [Posting {
+        hour: 0,
+        unit: 0,
+        item: 0,
+        amount: 0,
+    }; 2000];
+    run(&mut list, sheet, calls, text, answers)
 }

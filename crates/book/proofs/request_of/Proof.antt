@@ -1,7 +1,10 @@
--- Each return is the kind that was asked for.
+-- Each return is the call of the kind that was asked for.
 -- Assumes nothing.
-use mathlib.Core.Path.{_∙_}
+use mathlib.Core.Path.{ap, _∙_}
+use mathlib.Core.List.{List}
+use Prim.Native.Nat.{ℕ}
 use borrow.Author.Tests.{eq-eqb, ne-eqb}
+use Rattle.book.specs.Calls.{recordRequest}
 use Rattle.book.proofs.Numbered.{take-by, release-by, move-by, settle-by, restate-by, void-by}
 use borrow.Author.Needs.{needs}
 use Rattle.book.proofs.request_of.Statement.{statement}
@@ -11,37 +14,49 @@ plain-request-requires : tie.Need-plain-request-requires
 plain-request-requires c κs = search needs
 
 returns : tie.Need-returns
-returns c = c .plain-request .ensures ∙ take-by _ _ _ _ _ _ _ _ (eq-eqb _ _ (c .before .if1 .taken))
+returns c = c .plain-request .ensures ∙ take-by _ _ _ (eq-eqb _ _ (c .before .if1 .taken))
 
 plain-request-requires-2 : tie.Need-plain-request-requires-2
 plain-request-requires-2 c κs = search needs
 
 returns-2 : tie.Need-returns-2
-returns-2 c = c .plain-request2 .ensures ∙ release-by _ _ _ _ _ _ _ _ (ne-eqb _ _ (c .before .before .if1 .left)) (eq-eqb _ _ (c .before .if2 .taken))
+returns-2 c = c .plain-request2 .ensures ∙ release-by _ _ _ (ne-eqb _ _ (c .before .before .if1 .left)) (eq-eqb _ _ (c .before .if2 .taken))
 
 plain-request-requires-3 : tie.Need-plain-request-requires-3
 plain-request-requires-3 c κs = search needs
 
 returns-3 : tie.Need-returns-3
-returns-3 c = c .plain-request3 .ensures ∙ move-by _ _ _ _ _ _ _ _ (ne-eqb _ _ (c .before .before .before .if1 .left)) (ne-eqb _ _ (c .before .before .if2 .left)) (eq-eqb _ _ (c .before .if3 .taken))
+returns-3 c = c .plain-request3 .ensures ∙ move-by _ _ _ (ne-eqb _ _ (c .before .before .before .if1 .left)) (ne-eqb _ _ (c .before .before .if2 .left)) (eq-eqb _ _ (c .before .if3 .taken))
+
+part-of-requires : tie.Need-part-of-requires
+part-of-requires c κs = search needs
 
 record-request-requires : tie.Need-record-request-requires
 record-request-requires c κs = search needs
 
 returns-4 : tie.Need-returns-4
-returns-4 c = c .record-request .ensures ∙ settle-by _ _ _ _ _ _ _ _ (ne-eqb _ _ (c .before .before .before .before .if1 .left)) (ne-eqb _ _ (c .before .before .before .if2 .left)) (ne-eqb _ _ (c .before .before .if3 .left)) (eq-eqb _ _ (c .before .if4 .taken))
+returns-4 c =
+    c .record-request .ensures
+    ∙ (ap (λ (t : List ℕ). recordRequest (c .before .before .before .before .before .before .before .args .sheet) 4 t (c .before .before .before .before .before .before .before .args .asked .start)) (c .before .part-of .ensures)
+    ∙ settle-by _ _ _ (ne-eqb _ _ (c .before .before .before .before .before .if1 .left)) (ne-eqb _ _ (c .before .before .before .before .if2 .left)) (ne-eqb _ _ (c .before .before .before .if3 .left)) (eq-eqb _ _ (c .before .before .if4 .taken)))
+
+part-of-requires-2 : tie.Need-part-of-requires-2
+part-of-requires-2 c κs = search needs
 
 record-request-requires-2 : tie.Need-record-request-requires-2
 record-request-requires-2 c κs = search needs
 
 returns-5 : tie.Need-returns-5
-returns-5 c = c .record-request2 .ensures ∙ restate-by _ _ _ _ _ _ _ _ (ne-eqb _ _ (c .before .before .before .before .before .if1 .left)) (ne-eqb _ _ (c .before .before .before .before .if2 .left)) (ne-eqb _ _ (c .before .before .before .if3 .left)) (ne-eqb _ _ (c .before .before .if4 .left)) (eq-eqb _ _ (c .before .if5 .taken))
+returns-5 c =
+    c .record-request2 .ensures
+    ∙ (ap (λ (t : List ℕ). recordRequest (c .before .before .before .before .before .before .before .before .args .sheet) 5 t (c .before .before .before .before .before .before .before .before .args .asked .start)) (c .before .part-of2 .ensures)
+    ∙ restate-by _ _ _ (ne-eqb _ _ (c .before .before .before .before .before .before .if1 .left)) (ne-eqb _ _ (c .before .before .before .before .before .if2 .left)) (ne-eqb _ _ (c .before .before .before .before .if3 .left)) (ne-eqb _ _ (c .before .before .before .if4 .left)) (eq-eqb _ _ (c .before .before .if5 .taken)))
 
 plain-request-requires-4 : tie.Need-plain-request-requires-4
 plain-request-requires-4 c κs = search needs
 
 returns-6 : tie.Need-returns-6
-returns-6 c = c .plain-request4 .ensures ∙ void-by _ _ _ _ _ _ _ _ (ne-eqb _ _ (c .before .before .before .before .before .if1 .left)) (ne-eqb _ _ (c .before .before .before .before .if2 .left)) (ne-eqb _ _ (c .before .before .before .if3 .left)) (ne-eqb _ _ (c .before .before .if4 .left)) (ne-eqb _ _ (c .before .if5 .left))
+returns-6 c = c .plain-request4 .ensures ∙ void-by _ _ _ (ne-eqb _ _ (c .before .before .before .before .before .if1 .left)) (ne-eqb _ _ (c .before .before .before .before .if2 .left)) (ne-eqb _ _ (c .before .before .before .if3 .left)) (ne-eqb _ _ (c .before .before .if4 .left)) (ne-eqb _ _ (c .before .if5 .left))
 
 pub request-of-spec : {M : Type 1} → statement M
 request-of-spec =
@@ -53,8 +68,10 @@ request-of-spec =
     returns-2
     plain-request-requires-3
     returns-3
+    part-of-requires
     record-request-requires
     returns-4
+    part-of-requires-2
     record-request-requires-2
     returns-5
     plain-request-requires-4

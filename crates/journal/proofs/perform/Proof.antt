@@ -52,9 +52,9 @@ use Rattle.book.specs.declared.Outcome.{Outcome}
 use Rattle.book.specs.Calls.{decided, outcomeOf}
 use Rattle.book.specs.Sound.{WellRead}
 use Rattle.book.proofs.Places.{decided-fits}
-use Rattle.journal.specs.Journal.{scannedIn, posted, decidedOn}
+use Rattle.journal.specs.Journal.{scannedIn, posted}
 use Rattle.journal.proofs.Again.{LentAgain, lends-again, comes-back}
-use Rattle.journal.proofs.Posted.{performed-is}
+use Rattle.journal.proofs.Posted.{decidedBy, performed-is}
 use Rattle.journal.proofs.Typed.{typed-scanned, typed-sheet, typed-book, typed-request, typed-decision, typed-outcome}
 use Rattle.postings.proofs.Posting as T
 use Rattle.book.proofs.Answer as N
@@ -197,7 +197,7 @@ module _ {M : Type 1} (𝓤 : URA M) (H : Heap 𝓤) (A : Atoms 𝓤) (W : Given
   seen = scannedIn ys count 0 0
 
   abbrev D : Decision
-  D = decidedOn ys count sheet book request
+  D = decidedBy ys count sheet book request
 
   abbrev Post : Val → SProp 𝓤
   Post = walkOf 𝓤 H A perform.ended stayed (perform.clauses 𝓤 H A mem run) .post (((κ, tt), (q, tt), tt, a, values), tt)

@@ -44,9 +44,10 @@ use Rattle.postings.specs.declared.Posting.{Posting}
 use Rattle.postings.specs.declared.Scanned.{Scanned}
 use Rattle.sheet.specs.declared.Sheet.{Sheet}
 use Rattle.state.specs.declared.Book.{Book}
-use Rattle.journal.specs.declared.TotalAnswer.{TotalAnswer}
+use Rattle.book.specs.declared.TotalAnswer.{TotalAnswer}
 use Rattle.journal.specs.Journal.{scannedIn}
-use Rattle.journal.specs.Total.{totalDecided}
+use Rattle.book.specs.Total.{totalDecided}
+use Rattle.journal.proofs.Posted.{total-is}
 use Rattle.journal.proofs.Typed.{typed-sheet, typed-book, typed-scanned, typed-totalanswer}
 use Rattle.postings.proofs.Posting as T
 use Rattle.sheet.proofs.Sheet as Z
@@ -55,16 +56,16 @@ use Rattle.state.proofs.Book as B
 use Rattle.state.proofs.Book.Laws as B′
 use Rattle.postings.proofs.Scanned as C
 use Rattle.postings.proofs.Scanned.Laws as C′
-use Rattle.journal.proofs.TotalAnswer as U
-use Rattle.journal.proofs.TotalAnswer.Laws as U′
+use Rattle.book.proofs.TotalAnswer as U
+use Rattle.book.proofs.TotalAnswer.Laws as U′
 use Rattle.journal.proofs.scan as scan
 use Rattle.journal.proofs.scan.Symbol as scan-def
 use Rattle.journal.proofs.scan.Symbol.{name as #journal·scan}
 use Rattle.journal.proofs.scan.Met as scan-thm
-use Rattle.journal.proofs.total_of as of
-use Rattle.journal.proofs.total_of.Symbol as of-def
-use Rattle.journal.proofs.total_of.Symbol.{name as #journal·total-of}
-use Rattle.journal.proofs.total_of.Met as of-thm
+use Rattle.book.proofs.total_of as of
+use Rattle.book.proofs.total_of.Symbol as of-def
+use Rattle.book.proofs.total_of.Symbol.{name as #book·total-of}
+use Rattle.book.proofs.total_of.Met as of-thm
 use Rattle.journal.proofs.total.Key.{name as #journal·total}
 use Rattle.journal.proofs.total as this
 use Rattle.journal.proofs.total.Statement as stated
@@ -106,8 +107,8 @@ module _ {M : Type 1} (𝓤 : URA M) (H : Heap 𝓤) (A : Atoms 𝓤) (mem : Mem
   abbrev Of : Contract 𝓤
   Of = tripleOf 𝓤 H A of.signature (of.spec 𝓤 H A mem run)
 
-  of-says : (s : Sheet) (b : Book) (u i c m : ℕ) (t : Scanned) (r : TotalAnswer) → ent 𝓤 (ensured 𝓤 H A of.ended (of.clauses 𝓤 H A mem run) tt (s, (b, (u, (i, (c, (m, (t, tt))))))) tt r) (fact 𝓤 (r ≡ totalDecided s b u i c m t))
-  of-says s b u i c m t r = exE 𝓤 _ (λ ws. snd∗ 𝓤 (sem 𝓤 H A (lasts of.ended tt (s, (b, (u, (i, (c, (m, (t, tt))))))) ws)) (fact 𝓤 (r ≡ totalDecided s b u i c m t)))
+  of-says : (s : Sheet) (b : Book) (u i c m : ℕ) (t : Scanned) (r : TotalAnswer) → ent 𝓤 (ensured 𝓤 H A of.ended (of.clauses 𝓤 H A mem run) tt (s, (b, (u, (i, (c, (m, (t, tt))))))) tt r) (fact 𝓤 (r ≡ totalDecided s b u i c m (t .good) (t .sum)))
+  of-says s b u i c m t r = exE 𝓤 _ (λ ws. snd∗ 𝓤 (sem 𝓤 H A (lasts of.ended tt (s, (b, (u, (i, (c, (m, (t, tt))))))) ws)) (fact 𝓤 (r ≡ totalDecided s b u i c m (t .good) (t .sum))))
 
 module _ {M : Type 1} (𝓤 : URA M) (H : Heap 𝓤) (A : Atoms 𝓤) (W : Given 𝓤 H A) (mem : Memory → SProp 𝓤) (run : Routine → Fun 𝓤) (κ : Lft) (q : Share) (b o : ℕ) (γ : GName) (ys : List Posting) (count : ℕ) (sheet : Sheet) (book : Book) (which item : ℕ)
     (list-room : Room T.the-row (length ys)) (count-fits : count < 2 ^ 64) (sheet-val : Val) (sheet-is : Is Z.the-row sheet (sheet-val ∷ [])) (book-val : Val) (book-is : Is B.the-row book (book-val ∷ [])) (which-fits : which < 2 ^ 64) (item-fits : item < 2 ^ 64) where
@@ -130,7 +131,7 @@ module _ {M : Type 1} (𝓤 : URA M) (H : Heap 𝓤) (A : Atoms 𝓤) (W : Given
   seen = scannedIn ys count which item
 
   abbrev End : TotalAnswer
-  End = totalDecided sheet book which item count (length ys) seen
+  End = totalDecided sheet book which item count (length ys) (seen .good) (seen .sum)
 
   abbrev Post : Val → SProp 𝓤
   Post = walkOf 𝓤 H A this.ended stayed (this.clauses 𝓤 H A mem run) .post (((κ, tt), (q, tt), tt, a, values), tt)
@@ -154,7 +155,7 @@ module _ {M : Type 1} (𝓤 : URA M) (H : Heap 𝓤) (A : Atoms 𝓤) (W : Given
   exits : (v : Val) (zs : List Posting) → zs ≡ ys → length zs ≡ length ys → ent 𝓤 (⋆ 𝓤 H A ((‵ (flft κ q) ⊛ ‵ ftrue) ∷ ‵ (finally T.the-row γ zs) ∷ ‵ (U.the-row .own End (v ∷ [])) ∷ [])) (Post v)
   exits v zs e same =
       qed W ((‵ (flft κ q) ⊛ ‵ ftrue) ∷ ‵ (finally T.the-row γ zs) ∷ ‵ (U.the-row .own End (v ∷ [])) ∷ []) ∵
-      suffices ! _ (ends-at 𝓤 H A this.ended stayed (this.clauses 𝓤 H A mem run) W (((κ, tt), (q, tt), tt, a, values), tt) v End (zs, (tt, (tt, (tt, (tt, (tt, tt)))))) (same, (tt, (tt, (tt, (tt, (tt, tt))))))) $ says ! (refl, e) $
+      suffices ! _ (ends-at 𝓤 H A this.ended stayed (this.clauses 𝓤 H A mem run) W (((κ, tt), (q, tt), tt, a, values), tt) v End (zs, (tt, (tt, (tt, (tt, (tt, tt)))))) (same, (tt, (tt, (tt, (tt, (tt, tt))))))) $ says ! (total-is ys count sheet book which item, e) $
       frame ! $ nothing ! $ owned ! usize (Is usize) (uint-makes 𝓤 H A W w64) item _ (refl, item-fits) $ fjoin ! $ owned ! usize (Is usize) (uint-makes 𝓤 H A W w64) which _ (refl, which-fits) $ fjoin ! $ owned ! B.the-row (Is B.the-row) (LL.makes B.the-type B′.the-plain 𝓤 H A) book _ book-is $ fjoin ! $ owned ! Z.the-row (Is Z.the-row) (LL.makes Z.the-type Z′.the-plain 𝓤 H A) sheet _ sheet-is $ fjoin ! $ owned ! usize (Is usize) (uint-makes 𝓤 H A W w64) count _ (refl, count-fits) $ fjoin ! $ move ! (1 ∷ 0 ∷ []) $ fjoin ! $ move ! (0 ∷ 1 ∷ []) $ done !
 
   scanned-has : (v : Val) → Is C.the-row seen (v ∷ []) → Holds (hasTy tyC v) × WT v
@@ -163,7 +164,7 @@ module _ {M : Type 1} (𝓤 : URA M) (H : Heap 𝓤) (A : Atoms 𝓤) (W : Given
   total-has : (v : Val) → Is U.the-row End (v ∷ []) → Holds (hasTy tyU v) × WT v
   total-has v i = here-totalanswer v (typed-totalanswer 𝓤 H A W End v i)
 
-  module _ (C₀ : Calls 𝓤 H) (Λ : Loops 𝓤 H) (fm : FmC 𝓤 H (W .laws) C₀) (known-scan : Triple 𝓤 (C₀ #journal·scan) (Scan 𝓤 H A mem run)) (known-of : Triple 𝓤 (C₀ #journal·total-of) (Of 𝓤 H A mem run)) where
+  module _ (C₀ : Calls 𝓤 H) (Λ : Loops 𝓤 H) (fm : FmC 𝓤 H (W .laws) C₀) (known-scan : Triple 𝓤 (C₀ #journal·scan) (Scan 𝓤 H A mem run)) (known-of : Triple 𝓤 (C₀ #book·total-of) (Of 𝓤 H A mem run)) where
     module _ (tU tZ tB tC : Ty) (l₀ l₁ l₂ l₃ l₄ l₅ l₆ l₇ l₈ l₉ l₁₀ : ℕ) where
       abbrev word : Ty
       word = tyInt w64
@@ -213,13 +214,13 @@ module _ {M : Type 1} (𝓤 : URA M) (H : Heap 𝓤) (A : Atoms 𝓤) (W : Given
         pass1 ! (init ! 18 refl (tt, (tt, (record { fits = list-room .0 }, tt)))) $ pass1 ! (init ! 16 refl (tt, record { fits = count-fits })) $ pass1 ! (init ! 14 refl (typed-sheet 𝓤 H A W sheet sheet-val sheet-is)) $ pass1 ! (init ! 12 refl (typed-book 𝓤 H A W book book-val book-is)) $ pass1 ! (init ! 10 refl (tt, record { fits = which-fits })) $ pass1 ! (init ! 8 refl (tt, record { fits = item-fits })) $ pass0 ! $ from-body tyU tyZ tyB tyC l₀ l₁ l₂ l₃ l₄ l₅ l₆ l₇ l₈ l₉ l₁₀ scanned-has total-has)))))))))))
 
 module _ {M : Type 1} (𝓤 : URA M) (H : Heap 𝓤) (A : Atoms 𝓤) (W : Given 𝓤 H A) (mem : Memory → SProp 𝓤) (run : Routine → Fun 𝓤) where
-  this-walks : (C₀ : Calls 𝓤 H) (Λ : Loops 𝓤 H) → FmC 𝓤 H (W .laws) C₀ → Triple 𝓤 (C₀ #journal·scan) (Scan 𝓤 H A mem run) → Triple 𝓤 (C₀ #journal·total-of) (Of 𝓤 H A mem run) → Walks 𝓤 H A this.ended stayed (WpFn 𝓤 H C₀ Λ code.function) (this.clauses 𝓤 H A mem run)
+  this-walks : (C₀ : Calls 𝓤 H) (Λ : Loops 𝓤 H) → FmC 𝓤 H (W .laws) C₀ → Triple 𝓤 (C₀ #journal·scan) (Scan 𝓤 H A mem run) → Triple 𝓤 (C₀ #book·total-of) (Of 𝓤 H A mem run) → Walks 𝓤 H A this.ended stayed (WpFn 𝓤 H C₀ Λ code.function) (this.clauses 𝓤 H A mem run)
   this-walks C₀ Λ fm known-scan known-of = walked 𝓤 H A this.ended stayed (this.clauses 𝓤 H A mem run) (WpFn 𝓤 H C₀ Λ code.function)
       (λ κs. (slice-vals, (uint-vals w64, ((λ d. Z′.lowered d ∷ []), ((λ d. B′.lowered d ∷ []), (uint-vals w64, (uint-vals w64, tt))))))) (λ κs. (mut-slice-tells (named 0) (κs .0) T.the-row, (uint-tells w64, (Z′.lowers .val-is, (B′.lowers .val-is, (uint-tells w64, (uint-tells w64, tt)))))))
       (λ κs qs bounds a _ are. via 𝓤 _ (fst∗ 𝓤 _ (emp 𝓤)) (walk 𝓤 H A W mem run (κs .0) (qs .0) (a .0 .ptr .0) (a .0 .ptr .1) (a .0 .name) (a .0 .now) (a .1 .0) (a .1 .1 .0) (a .1 .1 .1 .0) (a .1 .1 .1 .1 .0) (a .1 .1 .1 .1 .1 .0)
       (are .0 .0 .1) (are .1 .0 .1) (Z′.lowered (a .1 .1 .0)) (are .1 .1 .0) (B′.lowered (a .1 .1 .1 .0)) (are .1 .1 .1 .0) (are .1 .1 .1 .1 .0 .1) (are .1 .1 .1 .1 .1 .0 .1) C₀ Λ fm known-scan known-of))
 
-this-meets : {M : Type 1} (𝓤 : URA M) (H : Heap 𝓤) (A : Atoms 𝓤) → Given 𝓤 H A → (mem : Memory → SProp 𝓤) (run : Routine → Fun 𝓤) (𝓣 : Tables 𝓤 H) → Triple 𝓤 (𝓣 .C #journal·scan) (Scan 𝓤 H A mem run) → Triple 𝓤 (𝓣 .C #journal·total-of) (Of 𝓤 H A mem run)
+this-meets : {M : Type 1} (𝓤 : URA M) (H : Heap 𝓤) (A : Atoms 𝓤) → Given 𝓤 H A → (mem : Memory → SProp 𝓤) (run : Routine → Fun 𝓤) (𝓣 : Tables 𝓤 H) → Triple 𝓤 (𝓣 .C #journal·scan) (Scan 𝓤 H A mem run) → Triple 𝓤 (𝓣 .C #book·total-of) (Of 𝓤 H A mem run)
     → Meets 𝓤 H A this.signature (WpFn 𝓤 H (𝓣 .C) (𝓣 .Λ) code.function) (this.spec 𝓤 H A mem run)
 this-meets 𝓤 H A W mem run 𝓣 known-scan known-of =
     walk-meets 𝓤 H A this.ended stayed W (goes-gave-slice 𝓤 H A W 1 0 tt (plain (λ _. T.the-row)), (goes-none 𝓤 H A W 1 (λ _. usize) yes (λ κs x f. refl), (goes-none 𝓤 H A W 1 (λ _. Z.the-row) yes (λ κs x f. refl), (goes-none 𝓤 H A W 1 (λ _. B.the-row) yes (λ κs x f. refl), (goes-none 𝓤 H A W 1 (λ _. usize) yes (λ κs x f. refl), (goes-none 𝓤 H A W 1 (λ _. usize) yes (λ κs x f. refl), tt)))))) (this.clauses 𝓤 H A mem run)
@@ -232,4 +233,4 @@ total-spec 𝓤 H 𝓜 𝓖 𝓡 =
     (tables 𝓤 H 𝓜 𝓡 code.env .C) (tables 𝓤 H 𝓜 𝓡 code.env .Λ) #journal·total code.function (code.unfolded 𝓤 H 𝓜 𝓡)
     (this-meets 𝓤 H (𝓖 .A) (givenOf 𝓤 H 𝓜 𝓖) (𝓜 .mem) (𝓡 .run) (tablesOf 𝓤 H 𝓜 (tables 𝓤 H 𝓜 𝓡 code.env))
     (cited 𝓤 H (Scan 𝓤 H (𝓖 .A) (𝓜 .mem) (𝓡 .run)) 𝓜 𝓡 code.env #journal·scan scan-def.routine code.calls-journal·scan (scan-thm.met 𝓤 H 𝓜 𝓖 𝓡))
-    (cited 𝓤 H (Of 𝓤 H (𝓖 .A) (𝓜 .mem) (𝓡 .run)) 𝓜 𝓡 code.env #journal·total-of of-def.routine code.calls-journal·total-of (of-thm.met 𝓤 H 𝓜 𝓖 𝓡)))
+    (cited 𝓤 H (Of 𝓤 H (𝓖 .A) (𝓜 .mem) (𝓡 .run)) 𝓜 𝓡 code.env #book·total-of of-def.routine code.calls-book·total-of (of-thm.met 𝓤 H 𝓜 𝓖 𝓡)))

@@ -1,8 +1,8 @@
 -- Each test is a part of the definition.
 -- Assumes nothing.
 use borrow.Author.Tests.{lt-leb, le-leb}
-use Rattle.journal.proofs.item_known.Statement.{statement}
-use Rattle.journal.proofs.item_known.Tie as tie
+use Rattle.book.proofs.item_known.Statement.{statement}
+use Rattle.book.proofs.item_known.Tie as tie
 
 returns : tie.Need-returns
 returns c = simp (lt-leb _ _ (c .if1 .taken))

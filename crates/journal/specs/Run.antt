@@ -1,0 +1,78 @@
+-- A list of calls, each on what the call before it left (01, Book and journal: "Demand 3's calls share one list of places (..) with count 0 at
+-- first, and one sheet. The first gets the empty book, each later one what the call before returned or left").
+use Prim.Native.Nat.{ℕ, zero, suc, _+_, _*_, _/_, min}
+use mathlib.Core.Bool.{cond}
+use mathlib.Core.List.{List}
+use lib.Dec.{ltb}
+use lib.ListN.{length, getD, set, replicate}
+use Rattle.finite.specs.Finite.{tabulate}
+use Rattle.sheet.specs.declared.Sheet.{Sheet}
+use Rattle.state.specs.Book.{emptyBook}
+use Rattle.postings.specs.declared.Posting.{Posting}
+use Rattle.postings.specs.Journal.{noPosting}
+use Rattle.book.specs.declared.Outcome.{Outcome}
+use Rattle.book.specs.Ledger.{Reply}
+use Rattle.book.specs.Numbers.{numberOf, lineOf, postedOf}
+use Rattle.book.specs.Calls.{State}
+use Rattle.book.specs.Requests.{callNumbers, requestAt}
+use Rattle.journal.specs.declared.Ran.{Ran}
+use Rattle.journal.specs.Journal.{Performed, performed}
+
+-- "with count 0 at first (..) The first gets the empty book"
+abbrev pub startRan : Ran
+startRan = record { book = emptyBook; count = 0 }
+
+-- answer i stands in four places: number, line, postings appended, text place
+abbrev pub answerNumbers : ℕ
+answerNumbers = 4
+
+unfoldable pub answered : List ℕ → ℕ → Outcome → List ℕ
+answered l i o =
+    cond (ltb i (length l / answerNumbers))
+    (set (set (set (set l (4 * i) (numberOf (o .answer))) (4 * i + 1) (lineOf (o .answer))) (4 * i + 2) (postedOf (o .answer))) (4 * i + 3) (o .place))
+    l
+
+-- an answer read back from its places, and the first n of them
+abbrev pub replyIn : List ℕ → ℕ → Reply
+replyIn l i = record { number = getD l (4 * i) 0; line = getD l (4 * i + 1) 0; posted = getD l (4 * i + 2) 0; place = getD l (4 * i + 3) 0 }
+
+abbrev pub repliesIn : List ℕ → ℕ → List Reply
+repliesIn l n = tabulate n (replyIn l)
+
+-- as many calls as there are whole groups of numbers, and places for answers
+unfoldable pub turnsOf : (calls answers : ℕ) → ℕ
+turnsOf calls answers = min (calls / callNumbers) (answers / answerNumbers)
+
+abbrev pub handedOn : Outcome → Ran
+handedOn o = record { book = o .book; count = o .count }
+
+-- the list, the answers, and what is handed on
+pub record Running : Type 0 where
+  pub list : List Posting
+  pub answers : List ℕ
+  pub ran : Ran
+
+-- the book, the count and the journal of it
+abbrev pub stateOf : Running → State
+stateOf s = record { book = s .ran .book; count = s .ran .count; journal = s .list }
+
+abbrev pub performedAt : Sheet → (calls text : List ℕ) → Running → ℕ → Performed
+performedAt sheet calls text s i = performed (s .list) (s .ran .count) sheet (s .ran .book) (requestAt sheet calls text i)
+
+-- call i of the list
+unfoldable pub turned : Sheet → (calls text : List ℕ) → Running → ℕ → Running
+turned sheet calls text s i =
+    let p = performedAt sheet calls text s i in
+    record { list = p .list; answers = answered (s .answers) i (p .outcome); ran = handedOn (p .outcome) }
+
+-- the first calls one after the other
+unfoldable pub ranAll : Sheet → (calls text : List ℕ) → Running → ℕ → Running
+ranAll sheet calls text s zero = s
+ranAll sheet calls text s (suc k) = turned sheet calls text (ranAll sheet calls text s k) k
+
+-- 01, Program and marked figures: "over a list of 2,000 places"
+unfoldable pub ownStart : List ℕ → Running
+ownStart answers = record { list = replicate 2000 noPosting; answers = answers; ran = startRan }
+
+abbrev pub dayOf : Sheet → (calls text answers : List ℕ) → Running
+dayOf sheet calls text answers = ranAll sheet calls text (ownStart answers) (turnsOf (length calls) (length answers))
