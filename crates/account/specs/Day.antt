@@ -55,11 +55,15 @@ abbrev pub takeOf : Line → (after : ℕ) → Next
 takeOf l after =
     cond (eqb (l .code) 0) (Asks (takeAsked (getD (l .number) 0 0) (getD (l .number) 1 0) (getD (l .number) 2 0)) after) (Bad (l .code))
 
+-- the settle of the record that begins at a place
+abbrev pub settleOf : List ℕ → (at : ℕ) → Next
+settleOf text at = Asks (settleAsked text at) at
+
 -- the call of a line by its key; "a line of another key" is 1
 abbrev pub lineCall : List ℕ → (at : ℕ) → (line : List ℕ) → Next
 lineCall text at line =
     cond (keyIs line (word "take")) (takeOf (valueOf takeRow (valuePart line)) (placeAfter text at))
-    (cond (keyIs line (word "hour")) (Asks (settleAsked text at) at) (Bad 1))
+    (cond (keyIs line (word "hour")) (settleOf text at) (Bad 1))
 
 -- "then `take=hour:unit:kWh` lines and hour records in any mixture": what comes at a place of the text. 4 where it "ends inside a line"
 unfoldable pub nextAt : List ℕ → (at : ℕ) → Next

@@ -7,7 +7,7 @@ ghost use Rattle.postings.specs.Journal.{noPosting};
 ghost use Rattle.state.specs.Book.{emptyBook};
 ghost use Rattle.book.specs.Requests.{noneAsked};
 ghost use Rattle.decimal.specs.Output.{output, written};
-ghost use Rattle.account.specs.Day.{takeRow, takeAsked, settleAsked, takeOf, lineCall, nextAt, dayEnded, dayAt, dayAfter, Running, turned, ranOut, dayFrom};
+ghost use Rattle.account.specs.Day.{takeRow, takeOf, settleOf, nextAt, dayEnded, dayAt, dayAfter, Running, turned, ranOut, dayFrom};
 ghost use Rattle.account.specs.Statement.{dayLines, statementOf};
 use book::Answer;
 use book::Asked;
@@ -92,7 +92,7 @@ fn take_of(line: Line, after: usize) -> Next
 
 // The settle of the record that begins at a place.
 fn settle_at(text: &[u8], at: usize) -> Next
-    ensures { λ r. ⌜ r ≡ Rattle.account.specs.declared.Next.the-variants.Asks (settleAsked (now (text .entry)) at) at ⌝ }
+    ensures { λ r. ⌜ r ≡ settleOf (now (text .entry)) at ⌝ }
 {
     Next::Asks(
         Asked {
