@@ -1,12 +1,13 @@
 // The day's account: from the bytes of day.txt to the bytes printed. The sheet is read, then takes and hour records are carried out as they
 // come, over a journal of 2,000 places.
 ghost use mathlib.Core.Path.{_≡_};
-ghost use Prim.Native.Nat.{suc, _-_};
+ghost use Prim.Native.Nat.{suc, _-_, _≤_};
 ghost use lib.ListN.{length, replicate};
 ghost use Rattle.postings.specs.Journal.{noPosting};
 ghost use Rattle.state.specs.Book.{emptyBook};
 ghost use Rattle.book.specs.Requests.{noneAsked};
-ghost use Rattle.decimal.specs.Output.{output, written};
+ghost use Rattle.decimal.specs.Output.{output, written, filled};
+ghost use Rattle.listing.specs.Listing.{mostBytes};
 ghost use Rattle.account.specs.Day.{takeRow, takeOf, settleOf, nextAt, dayEnded, dayAt, dayAfter, Running, turned, ranOut, dayFrom};
 ghost use Rattle.account.specs.Statement.{dayLines, statementOf};
 use book::Answer;
@@ -229,6 +230,7 @@ pub fn day_of(sheet: Sheet, text: &[u8], at: usize) -> Day
 // What is printed of a day.
 fn put_day(out: &mut [u8], units: u64, day: Day) -> usize
     ensures { λ r. ⌜ output (now (out .exit)) r ≡ written (output (now (out .entry)) 0) (dayLines units day) ⌝ }
+    ensures { λ r. ⌜ r ≤ mostBytes ⌝ }
 {
     let book = day.book;
     if day.refusal == 0 {
@@ -237,9 +239,11 @@ fn put_day(out: &mut [u8], units: u64, day: Day) -> usize
     listing::put_refusal(out, 0, day.refusal)
 }
 
-// The statement of a day's text, written from the start of the buffer on as far as it has room; gives how many bytes are written.
+// The statement of a day's text, written from the start of the buffer on as far as it has room; gives how many bytes are written. A buffer
+// of 32,256 bytes has room for every statement.
 pub fn statement_of(text: &[u8], out: &mut [u8]) -> usize
-    ensures { λ r. ⌜ output (now (out .exit)) r ≡ written (output (now (out .entry)) 0) (statementOf (now (text .entry))) ⌝ }
+    ensures { λ r. ⌜ output (now (out .exit)) r ≡ filled (now (out .entry)) (statementOf (now (text .entry))) ⌝ }
+    ensures { λ r. ⌜ r ≤ mostBytes ⌝ }
 {
     let read = sheet::read_sheet(text, 0);
     let answer = read.answer;

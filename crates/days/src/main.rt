@@ -5,12 +5,10 @@ fn say(words: &[u8]) {
     io::write_all(STDOUT_FILENO, words);
 }
 
-fn statement_of(text: &[u8]) {
+fn say_statement(text: &[u8]) {
     let mut out = [0u8; 32768];
     let n = account::statement_of(text, &mut out);
-    if n <= 32768 {
-        say(&out[..n]);
-    }
+    say(&out[..n]);
 }
 
 fn file_of(i: usize) {
@@ -26,7 +24,7 @@ fn file_of(i: usize) {
     libc::close(file);
     say(&name[..length]);
     say(b"\n");
-    statement_of(&text[..size]);
+    say_statement(&text[..size]);
 }
 
 fn main() {

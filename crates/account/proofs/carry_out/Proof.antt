@@ -231,46 +231,46 @@ module _ {M : Type 1} (𝓤 : URA M) (H : Heap 𝓤) (A : Atoms 𝓤) (W : Given
         more : (s : Running) (X : SProp 𝓤) → 0 < s .day .left → length (s .list) ≡ length ys → Good (s .day) → (Good (then-to s .day) → length (then-to s .list) ≡ length ys → ent 𝓤 (⋆ 𝓤 H A (At (then-to s))) X) → ent 𝓤 (⋆ 𝓤 H A (At s)) (Wp 𝓤 H C Λ (En tG) body.turn-1 (afterTurn 𝓤 H X Left))
         unfolding afterTurn
         more s X some-left same good next =
-          qed W (At s) ∵ exec ! C Λ (En tG) body.turn-1 (anyQ (afterTurn 𝓤 H X Left)) $
-          assigns ! (bin ! (lit ! tt) (load ! (from ! (fld ! refl (stop !))) (look-in ! 4 (sub ! 0 refl (whole !)))) tt) (from ! (stop !)) (init ! 5 refl (tt, tt)) $
-          rewrite ! 5 (λ (t : Bool). ‵ (fat fullShare tyBool l₆ 0 (vbool t))) (holds (ltb 0 (s .day .left)) (lt→ltb 0 (s .day .left) some-left)) refl $ stays ! (load ! (from ! (stop !)) (look ! 5 refl)) $
-          assigns ! (addr ! (from ! (fld ! refl (hop ! (look-in ! 8 (sub ! 0 refl (whole !))) (stop !))))) (from ! (stop !)) (init ! 6 refl (tt, tt)) $
-          assigns ! (agg ! (and-then ! (load ! (from ! (stop !)) (look ! 6 refl)) (and-then ! (load ! (from ! (fld ! refl (stop !))) (look-in ! 8 (sub ! 1 refl (whole !)))) (no-more !)))) (from ! (stop !)) (init ! 7 refl (tt, (tt, (record { fits = list-room .0 }, tt)))) $
-          -- the list is lent again, for a lifetime of the call
-          rewrite ! 0 (λ (m : ℕ). own κ γ (s .list) m) (sym same) refl $
-          lft-new ! tt (λ ν. move ! (1 ∷ 2 ∷ []) $
-          use2 W (later (some (λ (γ₁ : GName). own (ν ∷ []) γ₁ (s .list) (length (s .list)) ⊛ ‵ (LentAgain T.the-row κ (ν ∷ []) q γ b o γ₁ (s .list))))) (lends-again T.the-row κ (ν ∷ []) q γ b o 𝓤 H A W (named 0) (named 0) (s .list)) $ await ! tt $ pick ! (λ γ₁. split ! $
-          rewrite ! 0 (λ (m : ℕ). own (ν ∷ []) γ₁ (s .list) m) same refl $
-          -- the text is had twice
-          move ! (4 ∷ []) $ use1 W (‵ Text ⊛ ‵ Text) (shr-slice-copy 𝓤 H A W (named 1) κ₁ u8 .twice text (text-val ∷ [])) $ split ! $
-          nothing ! $ move ! (6 ∷ 0 ∷ []) $ join ! $ move ! (5 ∷ 0 ∷ []) $ join ! $
-          move ! (3 ∷ 1 ∷ []) $ join ! $ move ! (1 ∷ 0 ∷ []) $ use2 W (raw (Turn 𝓤 H A mem run .pre (to-turn ν γ₁ s))) (goes-turn ν γ₁ s good) $
-          calls-at-last ! fm (Turn 𝓤 H A mem run) known (to-turn ν γ₁ s) (and-then ! (load ! (from ! (stop !)) (look ! 6 refl)) (and-then ! (load ! (from ! (stop !)) (look ! 8 refl)) (and-then ! (load ! (from ! (stop !)) (look ! 9 refl)) (and-then ! (load ! (from ! (stop !)) (look ! 3 refl)) (no-more !))))) (λ w.
-          use1 W (later (some (λ (r : Day). ((‵ (flft (ν ∷ []) fullShare) ⊛ (‵ (flft κ₁ q₁) ⊛ ‵ ftrue)) ⊛ ‵ (G.the-row .own r (w ∷ []))) ⊛ raw (ensured 𝓤 H A turn.ended (turn.clauses 𝓤 H A mem run) (ν ∷ [], (κ₁, tt)) (x γ₁ (s .list), (sheet, (text, (s .day, tt)))) tt r)))) (id⊢ 𝓤 _) $ await ! tt $ pick ! (λ r.
-          split ! $ move ! (1 ∷ []) $ use1 W (some (λ (zs : List Posting × (Unit {0} × (Unit {0} × (Unit {0} × Unit {0})))). ‵ (lasts turn.ended (ν ∷ [], (κ₁, tt)) (x γ₁ (s .list), (sheet, (text, (s .day, tt)))) zs) ⊛ raw (fact 𝓤 (_≡_ {A = Running} (record { list = zs .0; day = r }) (then-to s))))) (id⊢ 𝓤 _) $ pick ! (λ zs.
-          split ! $ move ! (1 ∷ []) $ heard ! (_≡_ {A = Running} (record { list = zs .0; day = r }) (then-to s)) (λ e. fsplit ! $ fsplit ! $ move ! (1 ∷ []) $ feqL ! (λ long.
-          move ! (2 ∷ []) $ split ! $ move ! (1 ∷ []) $ rewrite ! 0 (λ (h : Day). ‵ (G.the-row .own h (w ∷ []))) (ap (λ (z : Running). z .day) e) refl $ peeks ! G.the-row (Is G.the-row) (shows 𝓤 H A G.the-row) (then-to s .day) (w ∷ []) (λ is.
-          -- the lifetime is ended, and the list comes back
-          drop ! $ split ! $ lft-end ! tt $ move ! (1 ∷ []) $ split ! $
-          move ! (2 ∷ 6 ∷ 3 ∷ []) $ use3 W (later (own κ γ (zs .0) (length (s .list)) ⊛ ‵ (flft κ q))) (comes-back T.the-row κ (ν ∷ []) q γ b o 𝓤 H A W (named 0) (named 0) (s .list) γ₁ (zs .0) (subst (Room T.the-row) (sym same) list-room) long) $ await ! tt $ split ! $
-          rewrite ! 0 (λ (m : ℕ). own κ γ (zs .0) m) same refl $ rewrite ! 0 (λ (zs : List Posting). own κ γ zs (length ys)) (ap (λ (z : Running). z .list) e) refl $
-          land-last ! (from ! (stop !)) (store ! 6 refl (has-day (then-to s .day) w is)) $
-          rewrite ! 6 (λ (v : Val). ‵ (fat fullShare tG l₅ 0 v)) (ap only (G′.lowers .val-is (then-to s .day) _ is)) refl $
-          forget ! 7 refl $ forget ! 8 refl $ forget ! 9 refl $
-          keep ! (0 ∷ 1 ∷ 2 ∷ 5 ∷ 6 ∷ 7 ∷ 8 ∷ 9 ∷ 10 ∷ 11 ∷ 12 ∷ 13 ∷ 14 ∷ 15 ∷ 16 ∷ 17 ∷ 18 ∷ 19 ∷ 20 ∷ 21 ∷ 22 ∷ 23 ∷ []) $ by ! (next (subst (Is G.the-row (then-to s .day)) (G′.lowers .val-is (then-to s .day) _ is) is) (sym (ap (λ (z : Running). length (z .list)) e) ∙ (long ∙ same)))))))))))
+            qed W (At s) ∵ exec ! C Λ (En tG) body.turn-1 (anyQ (afterTurn 𝓤 H X Left)) $
+            assigns ! (bin ! (lit ! tt) (load ! (from ! (fld ! refl (stop !))) (look-in ! 4 (sub ! 0 refl (whole !)))) tt) (from ! (stop !)) (init ! 5 refl (tt, tt)) $
+            rewrite ! 5 (λ (t : Bool). ‵ (fat fullShare tyBool l₆ 0 (vbool t))) (holds (ltb 0 (s .day .left)) (lt→ltb 0 (s .day .left) some-left)) refl $ stays ! (load ! (from ! (stop !)) (look ! 5 refl)) $
+            assigns ! (addr ! (from ! (fld ! refl (hop ! (look-in ! 8 (sub ! 0 refl (whole !))) (stop !))))) (from ! (stop !)) (init ! 6 refl (tt, tt)) $
+            assigns ! (agg ! (and-then ! (load ! (from ! (stop !)) (look ! 6 refl)) (and-then ! (load ! (from ! (fld ! refl (stop !))) (look-in ! 8 (sub ! 1 refl (whole !)))) (no-more !)))) (from ! (stop !)) (init ! 7 refl (tt, (tt, (record { fits = list-room .0 }, tt)))) $
+            -- the list is lent again, for a lifetime of the call
+            rewrite ! 0 (λ (m : ℕ). own κ γ (s .list) m) (sym same) refl $
+            lft-new ! tt (λ ν. move ! (1 ∷ 2 ∷ []) $
+            use2 W (later (some (λ (γ₁ : GName). own (ν ∷ []) γ₁ (s .list) (length (s .list)) ⊛ ‵ (LentAgain T.the-row κ (ν ∷ []) q γ b o γ₁ (s .list))))) (lends-again T.the-row κ (ν ∷ []) q γ b o 𝓤 H A W (named 0) (named 0) (s .list)) $ await ! tt $ pick ! (λ γ₁. split ! $
+            rewrite ! 0 (λ (m : ℕ). own (ν ∷ []) γ₁ (s .list) m) same refl $
+            -- the text is had twice
+            move ! (4 ∷ []) $ use1 W (‵ Text ⊛ ‵ Text) (shr-slice-copy 𝓤 H A W (named 1) κ₁ u8 .twice text (text-val ∷ [])) $ split ! $
+            nothing ! $ move ! (6 ∷ 0 ∷ []) $ join ! $ move ! (5 ∷ 0 ∷ []) $ join ! $
+            move ! (3 ∷ 1 ∷ []) $ join ! $ move ! (1 ∷ 0 ∷ []) $ use2 W (raw (Turn 𝓤 H A mem run .pre (to-turn ν γ₁ s))) (goes-turn ν γ₁ s good) $
+            calls-at-last ! fm (Turn 𝓤 H A mem run) known (to-turn ν γ₁ s) (and-then ! (load ! (from ! (stop !)) (look ! 6 refl)) (and-then ! (load ! (from ! (stop !)) (look ! 8 refl)) (and-then ! (load ! (from ! (stop !)) (look ! 9 refl)) (and-then ! (load ! (from ! (stop !)) (look ! 3 refl)) (no-more !))))) (λ w.
+            use1 W (later (some (λ (r : Day). ((‵ (flft (ν ∷ []) fullShare) ⊛ (‵ (flft κ₁ q₁) ⊛ ‵ ftrue)) ⊛ ‵ (G.the-row .own r (w ∷ []))) ⊛ raw (ensured 𝓤 H A turn.ended (turn.clauses 𝓤 H A mem run) (ν ∷ [], (κ₁, tt)) (x γ₁ (s .list), (sheet, (text, (s .day, tt)))) tt r)))) (id⊢ 𝓤 _) $ await ! tt $ pick ! (λ r.
+            split ! $ move ! (1 ∷ []) $ use1 W (some (λ (zs : List Posting × (Unit {0} × (Unit {0} × (Unit {0} × Unit {0})))). ‵ (lasts turn.ended (ν ∷ [], (κ₁, tt)) (x γ₁ (s .list), (sheet, (text, (s .day, tt)))) zs) ⊛ raw (fact 𝓤 (_≡_ {A = Running} (record { list = zs .0; day = r }) (then-to s))))) (id⊢ 𝓤 _) $ pick ! (λ zs.
+            split ! $ move ! (1 ∷ []) $ heard ! (_≡_ {A = Running} (record { list = zs .0; day = r }) (then-to s)) (λ e. fsplit ! $ fsplit ! $ move ! (1 ∷ []) $ feqL ! (λ long.
+            move ! (2 ∷ []) $ split ! $ move ! (1 ∷ []) $ rewrite ! 0 (λ (h : Day). ‵ (G.the-row .own h (w ∷ []))) (ap (λ (z : Running). z .day) e) refl $ peeks ! G.the-row (Is G.the-row) (shows 𝓤 H A G.the-row) (then-to s .day) (w ∷ []) (λ is.
+            -- the lifetime is ended, and the list comes back
+            drop ! $ split ! $ lft-end ! tt $ move ! (1 ∷ []) $ split ! $
+            move ! (2 ∷ 6 ∷ 3 ∷ []) $ use3 W (later (own κ γ (zs .0) (length (s .list)) ⊛ ‵ (flft κ q))) (comes-back T.the-row κ (ν ∷ []) q γ b o 𝓤 H A W (named 0) (named 0) (s .list) γ₁ (zs .0) (subst (Room T.the-row) (sym same) list-room) long) $ await ! tt $ split ! $
+            rewrite ! 0 (λ (m : ℕ). own κ γ (zs .0) m) same refl $ rewrite ! 0 (λ (zs : List Posting). own κ γ zs (length ys)) (ap (λ (z : Running). z .list) e) refl $
+            land-last ! (from ! (stop !)) (store ! 6 refl (has-day (then-to s .day) w is)) $
+            rewrite ! 6 (λ (v : Val). ‵ (fat fullShare tG l₅ 0 v)) (ap only (G′.lowers .val-is (then-to s .day) _ is)) refl $
+            forget ! 7 refl $ forget ! 8 refl $ forget ! 9 refl $
+            keep ! (0 ∷ 1 ∷ 2 ∷ 5 ∷ 6 ∷ 7 ∷ 8 ∷ 9 ∷ 10 ∷ 11 ∷ 12 ∷ 13 ∷ 14 ∷ 15 ∷ 16 ∷ 17 ∷ 18 ∷ 19 ∷ 20 ∷ 21 ∷ 22 ∷ 23 ∷ []) $ by ! (next (subst (Is G.the-row (then-to s .day)) (G′.lowers .val-is (then-to s .day) _ is) is) (sym (ap (λ (z : Running). length (z .list)) e) ∙ (long ∙ same)))))))))))
 
         -- the turn that leaves the loop, and the rest of the body
         ends : (s : Running) → s .day .left ≡ 0 → s ≡ End start → length (s .list) ≡ length ys → Good (s .day) → (X : SProp 𝓤) → ent 𝓤 (⋆ 𝓤 H A (At s)) (Wp 𝓤 H C Λ (En tG) body.turn-1 (afterTurn 𝓤 H X Left))
         unfolding afterTurn
         ends s none-left ended same good X =
-          qed W (At s) ∵ exec ! C Λ (En tG) body.turn-1 (anyQ (afterTurn 𝓤 H X Left)) $
-          assigns ! (bin ! (lit ! tt) (load ! (from ! (fld ! refl (stop !))) (look-in ! 4 (sub ! 0 refl (whole !)))) tt) (from ! (stop !)) (init ! 5 refl (tt, tt)) $
-          rewrite ! 5 (λ (t : Bool). ‵ (fat fullShare tyBool l₆ 0 (vbool t))) (ap (λ (n : ℕ). ltb 0 n) none-left) refl $
-          leaves-loop ! (load ! (from ! (stop !)) (look ! 5 refl)) $ exec ! C Λ (En tG) body.t-3 (atRet (En tG) Post) $
-          assigns ! (of-opd ! (load ! (from ! (stop !)) (look ! 4 refl))) (from ! (stop !)) (init ! 12 refl (has-day (s .day) (G′.lowered (s .day)) good)) $
-          returns ! (look ! 12 refl) $ forget ! 4 refl $ forget ! 5 refl $ forget ! 8 refl $ forget ! 9 refl $ forget ! 10 refl $ forget ! 11 refl $ forget ! 12 refl $
-          move ! (12 ∷ 13 ∷ []) $ free1 ! $ move ! (8 ∷ 12 ∷ []) $ free1 ! $ move ! (8 ∷ 11 ∷ []) $ free1 ! $ move ! (8 ∷ 10 ∷ []) $ free1 ! $ move ! (8 ∷ 9 ∷ []) $ free1 ! $ move ! (4 ∷ 8 ∷ []) $ free1 ! $ move ! (4 ∷ 7 ∷ []) $ free1 ! $ move ! (4 ∷ 6 ∷ []) $ free1 ! $ move ! (4 ∷ 5 ∷ []) $ free1 ! $ free0 ! $
-          keep ! (0 ∷ 1 ∷ 2 ∷ 3 ∷ []) $ by ! (exits s ended same good)
+            qed W (At s) ∵ exec ! C Λ (En tG) body.turn-1 (anyQ (afterTurn 𝓤 H X Left)) $
+            assigns ! (bin ! (lit ! tt) (load ! (from ! (fld ! refl (stop !))) (look-in ! 4 (sub ! 0 refl (whole !)))) tt) (from ! (stop !)) (init ! 5 refl (tt, tt)) $
+            rewrite ! 5 (λ (t : Bool). ‵ (fat fullShare tyBool l₆ 0 (vbool t))) (ap (λ (n : ℕ). ltb 0 n) none-left) refl $
+            leaves-loop ! (load ! (from ! (stop !)) (look ! 5 refl)) $ exec ! C Λ (En tG) body.t-3 (atRet (En tG) Post) $
+            assigns ! (of-opd ! (load ! (from ! (stop !)) (look ! 4 refl))) (from ! (stop !)) (init ! 12 refl (has-day (s .day) (G′.lowered (s .day)) good)) $
+            returns ! (look ! 12 refl) $ forget ! 4 refl $ forget ! 5 refl $ forget ! 8 refl $ forget ! 9 refl $ forget ! 10 refl $ forget ! 11 refl $ forget ! 12 refl $
+            move ! (12 ∷ 13 ∷ []) $ free1 ! $ move ! (8 ∷ 12 ∷ []) $ free1 ! $ move ! (8 ∷ 11 ∷ []) $ free1 ! $ move ! (8 ∷ 10 ∷ []) $ free1 ! $ move ! (8 ∷ 9 ∷ []) $ free1 ! $ move ! (4 ∷ 8 ∷ []) $ free1 ! $ move ! (4 ∷ 7 ∷ []) $ free1 ! $ move ! (4 ∷ 6 ∷ []) $ free1 ! $ move ! (4 ∷ 5 ∷ []) $ free1 ! $ free0 ! $
+            keep ! (0 ∷ 1 ∷ 2 ∷ 3 ∷ []) $ by ! (exits s ended same good)
 
         inv : (t : ℕ) (s : Running) → Facts t s → ent 𝓤 (⋆ 𝓤 H A (At s)) (Inv t)
         inv t s e = via 𝓤 (guard 𝓤 (Facts t s) (⋆ 𝓤 H A (At s))) (guardI 𝓤 (Facts t s) (⋆ 𝓤 H A (At s)) e) (exI 𝓤 (λ (s′ : Running). guard 𝓤 (Facts t s′) (⋆ 𝓤 H A (At s′))) s)

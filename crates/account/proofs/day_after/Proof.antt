@@ -31,19 +31,19 @@ day-ended-requires c κs = search needs
 
 returns : tie.Need-returns
 unfolding dayAfter
-returns c = 
+returns c =
     let g = c .before .before .before .before .before .args in
     c .day-at .ensures ∙ ap (answeredBy (g .text .now) (g .day) (g .outcome)) (sym (c .before .enum-told .given .1))
 
 returns-2 : tie.Need-returns-2
 unfolding dayAfter
-returns-2 c = 
+returns-2 c =
     let g = c .before .before .before .before .before .args in
     c .day-at2 .ensures ∙ ap (answeredBy (g .text .now) (g .day) (g .outcome)) (sym (c .before .enum-told2 .given .1))
 
 returns-3 : tie.Need-returns-3
 unfolding dayAfter
-returns-3 c = 
+returns-3 c =
     let g = c .before .before .before .before .before .before .before .args in
     c .day-ended .ensures
     ∙ (ap (dayEnded (g .outcome .count) (g .outcome .book)) (c .before .refusal-number .ensures)

@@ -31,17 +31,17 @@ one-less-requires : tie.Need-one-less-requires
 one-less-requires c κs = search needs
 
 returns : tie.Need-returns
-returns c = 
+returns c =
     let g = c .before .before .before .before .before .args in
     c .day-ended .ensures ∙ ap (dayWith (g .left) (g .count) (g .book)) (sym (c .before .enum-told .given .1) ∙ c .before .before .before .next-at .ensures)
 
 returns-2 : tie.Need-returns-2
-returns-2 c = 
+returns-2 c =
     let g = c .before .before .before .before .before .before .args in
     c .day-ended2 .ensures ∙ ap (dayWith (g .left) (g .count) (g .book)) (sym (c .before .before .next .given .1) ∙ c .before .before .before .before .next-at .ensures)
 
 returns-3 : tie.Need-returns-3
-returns-3 c = 
+returns-3 c =
     let g = c .before .before .before .before .before .before .args in
     ap {B = Day} (λ (n : ℕ). record { left = n; count = g .count; book = g .book; asked = c .before .before .next2 .given .0 .0; after = c .before .before .next2 .given .0 .1 .0; refusal = 0 }) (c .one-less .ensures)
     ∙ ap (dayWith (g .left) (g .count) (g .book)) (sym (c .before .before .next2 .given .1) ∙ c .before .before .before .before .next-at .ensures)

@@ -21,7 +21,7 @@ day-at-requires : tie.Need-day-at-requires
 day-at-requires c κs = search needs
 
 returns : tie.Need-returns
-returns c = 
+returns c =
     let g = c .before .before .before .args in
     c .day-at .ensures
     ∙ ap₂ (λ (n : ℕ) (b : Book). dayAt (g .text .now) (g .at) n 0 b) (add-one (length (g .text .now))) (c .before .empty-book .ensures)

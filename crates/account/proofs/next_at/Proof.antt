@@ -48,7 +48,7 @@ take-of-requires : tie.Need-take-of-requires
 take-of-requires c κs = search needs
 
 returns-3 : tie.Need-returns-3
-returns-3 c = 
+returns-3 c =
     let v = c .before .before .before .value-of .result in
     c .take-of .ensures
     ∙ (ap (λ (l : Line). takeOf l (c .before .before .before .before .before .before .before .before .before .before .find .result + 1))
@@ -63,12 +63,12 @@ settle-at-requires : tie.Need-settle-at-requires
 settle-at-requires c κs = search needs
 
 returns-4 : tie.Need-returns-4
-returns-4 c = 
+returns-4 c =
     c .settle-at .ensures
     ∙ record-line (c .before .before .before .before .before .before .before .before .before .before .before .before .before .before .args .text .now) (c .before .before .before .before .before .before .before .before .before .before .before .before .before .before .args .at) (c .before .before .before .before .before .before .before .before .before .before .before .before .if1 .left) (c .before .before .before .before .before .before .before .before .before .before .before .find .result) (c .before .before .before .before .before .before .before .before .before .before .before .find .ensures) (c .before .before .before .before .before .before .before .before .before .before .if2 .left) (sym (c .before .before .before .before .before .before .key-is .ensures) ∙ c .before .before .before .before .before .if3 .left) (sym (c .before .before .key-is2 .ensures) ∙ c .before .if4 .taken)
 
 returns-5 : tie.Need-returns-5
-returns-5 c = 
+returns-5 c =
     other-line (c .before .before .before .before .before .before .before .before .before .before .before .before .before .args .text .now) (c .before .before .before .before .before .before .before .before .before .before .before .before .before .args .at) (c .before .before .before .before .before .before .before .before .before .before .before .if1 .left) (c .before .before .before .before .before .before .before .before .before .before .find .result) (c .before .before .before .before .before .before .before .before .before .before .find .ensures) (c .before .before .before .before .before .before .before .before .before .if2 .left) (sym (c .before .before .before .before .before .key-is .ensures) ∙ c .before .before .before .before .if3 .left) (sym (c .before .key-is2 .ensures) ∙ c .if4 .left)
 
 pub next-at-spec : {M : Type 1} → statement M

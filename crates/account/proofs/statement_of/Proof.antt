@@ -1,11 +1,12 @@
--- By how the sheet was read.
+-- By how the sheet was read. What is written from the start of the buffer on are its first bytes.
 -- Assumes nothing.
 use Prim.Native.Nat.{ℕ}
 use mathlib.Core.Path.{_≡_, ap, sym, _∙_}
-use mathlib.Core.List.{List}
+use native.Mathlib.Omega.{arith}
 use Rattle.lines.specs.declared.ReadAnswer.{ReadAnswer}
 use Rattle.sheet.specs.declared.SheetRead.{SheetRead}
 use Rattle.decimal.specs.Output.{output, written}
+use Rattle.decimal.proofs.Filled.{written-filled}
 use Rattle.listing.specs.Listing.{refusalLine}
 use Rattle.account.specs.declared.Day.{Day}
 use Rattle.account.specs.Statement.{linesBy, dayLines, statementOf}
@@ -39,28 +40,34 @@ same-length c = search needs
 
 returns : tie.Need-returns
 unfolding statementOf
-returns c = 
+returns c =
     let g = c .before .before .before .before .before .before .before .before .before .before .before .before .args in
     let o = output (g .out .now) 0 in
-    let r = c .before .before .before .before .before .before .before .before .before .read-sheet .result in
-    c .before .before .put-day .ensures
-    ∙ (ap (λ (d : Day). written o (dayLines (r .sheet .units) d)) (c .before .before .before .day-of .ensures)
-    ∙ (ap (λ (a : ReadAnswer). written o (linesBy (g .text .now) (r .sheet) a)) (sym (c .before .before .before .before .before .before .answer .given .1))
-    ∙ ap (λ (x : SheetRead). written o (linesBy (g .text .now) (x .sheet) (x .answer))) (c .before .before .before .before .before .before .before .before .before .read-sheet .ensures)))
+    let r = c .before .before .before .before .before .before .before .before .before .read-sheet .result in (
+      c .before .before .put-day .ensures .0
+          ∙ (ap (λ (d : Day). written o (dayLines (r .sheet .units) d)) (c .before .before .before .day-of .ensures)
+          ∙ (ap (λ (a : ReadAnswer). written o (linesBy (g .text .now) (r .sheet) a)) (sym (c .before .before .before .before .before .before .answer .given .1))
+          ∙ (ap (λ (x : SheetRead). written o (linesBy (g .text .now) (x .sheet) (x .answer))) (c .before .before .before .before .before .before .before .before .before .read-sheet .ensures)
+          ∙ written-filled (g .out .now) (statementOf (g .text .now))))),
+      c .before .before .put-day .ensures .1,
+    )
 
 same-length-2 : tie.Need-same-length-2
 same-length-2 c = search needs
 
 returns-2 : tie.Need-returns-2
 unfolding statementOf
-returns-2 c = 
+returns-2 c =
     let g = c .before .before .before .before .before .before .before .before .before .before .before .before .args in
     let o = output (g .out .now) 0 in
-    let r = c .before .before .before .before .before .before .before .before .before .read-sheet .result in
-    c .before .before .put-refusal .ensures
-    ∙ (ap (λ (n : ℕ). written o (refusalLine n)) (c .before .before .before .text-number .ensures)
-    ∙ (ap (λ (a : ReadAnswer). written o (linesBy (g .text .now) (r .sheet) a)) (sym (c .before .before .before .before .before .before .answer2 .given .1))
-    ∙ ap (λ (x : SheetRead). written o (linesBy (g .text .now) (x .sheet) (x .answer))) (c .before .before .before .before .before .before .before .before .before .read-sheet .ensures)))
+    let r = c .before .before .before .before .before .before .before .before .before .read-sheet .result in (
+      c .before .before .put-refusal .ensures .0
+          ∙ (ap (λ (n : ℕ). written o (refusalLine n)) (c .before .before .before .text-number .ensures)
+          ∙ (ap (λ (a : ReadAnswer). written o (linesBy (g .text .now) (r .sheet) a)) (sym (c .before .before .before .before .before .before .answer2 .given .1))
+          ∙ (ap (λ (x : SheetRead). written o (linesBy (g .text .now) (x .sheet) (x .answer))) (c .before .before .before .before .before .before .before .before .before .read-sheet .ensures)
+          ∙ written-filled (g .out .now) (statementOf (g .text .now))))),
+      omega (arith, c .before .before .put-refusal .ensures .1),
+    )
 
 pub statement-of-spec : {M : Type 1} → statement M
 statement-of-spec =
