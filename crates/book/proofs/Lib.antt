@@ -20,3 +20,6 @@ pub mod Well
 pub mod Places
 pub mod Numbered
 pub mod Onward
+pub mod Coded
+pub mod Fitting
+pub mod Exactly

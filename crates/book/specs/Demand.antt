@@ -11,15 +11,17 @@ use Rattle.energy.specs.declared.HubGrains.{HubGrains}
 use Rattle.units.specs.Units.{memberAt}
 use Rattle.allocation.specs.Allocation.{Allocated}
 use Rattle.sheet.specs.declared.Sheet.{Sheet}
+use Rattle.sheet.specs.Ranges.{sheetHolds}
 use Rattle.record.specs.declared.Record.{Record}
 use Rattle.settlement.specs.Hour.{plantOf}
 use Rattle.state.specs.declared.Book.{Book}
 use Rattle.state.specs.Book.{commitmentAt, energyAt, hourCommitments}
 use Rattle.postings.specs.declared.Posting.{Posting}
-use Rattle.postings.specs.Journal.{totalOf}
+use Rattle.postings.specs.Journal.{postedHold, totalOf}
 use Rattle.book.specs.Ledger.{Call, void, Kept, none, kept, Condition, Reply, emptyLedger, amountFor, conditionsOf, run}
 use Rattle.book.specs.Reckoned.{accepted, took, gave, lastFrom, sumZ}
-use Rattle.book.specs.Calls.{State}
+use Rattle.book.specs.Calls.{State, bookFits}
+use Rattle.book.specs.Total.{totalBy, itemOf, totalOn}
 use Rattle.book.specs.Agrees.{Agrees}
 
 -- no listed condition holds
@@ -64,3 +66,10 @@ pub record Demand (sheet : Sheet) (journal : List Posting) (calls : List Call) (
   pub postings : (k i : ℕ) → memberAt (sheet .units) k ≡ true → i < 5
       → totalOf (k + 1) (i + 1) (take (st .count) (st .journal))
       ≡ sumZ 24 (λ h. amountFor sheet (standing sheet calls replies (h + 1)) (reckoned calls replies (h + 1)) k i)
+  -- and that is what a total call then answers; only 9 and 11 can refuse it
+  pub totals : (unit item : ℕ)
+      → totalOn sheet st unit item
+      ≡ totalBy (sheetHolds sheet) true (itemOf sheet unit item)
+      (sumZ 24 (λ h. amountFor sheet (standing sheet calls replies (h + 1)) (reckoned calls replies (h + 1)) (unit - 1) (item - 1)))
+  -- book and journal stay in their ranges: 12 never refuses a call
+  pub in-ranges : bookFits sheet (st .book) (st .count) (length (st .journal)) (postedHold (take (st .count) (st .journal))) ≡ true

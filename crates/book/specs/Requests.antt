@@ -1,9 +1,9 @@
 -- The requests of the calls by name, and a list of calls in numbers: eight for each call, its kind, hour, unit, the unit moved to, kWh, the part
 -- of the lent text that it is given (from `begin` to before `end`), and where its record starts in that part. Kinds 1 to 5 are take, release,
 -- move, settle and restate; every other number is void.
-use Prim.Native.Nat.{ℕ, _+_, _-_, _*_, _/_}
+use Prim.Native.Nat.{ℕ, _+_, _-_, _*_, _/_, _<_}
 use mathlib.Core.Bool.{cond}
-use mathlib.Core.List.{List}
+use mathlib.Core.List.{List, [], _∷_, _++_}
 use lib.Dec.{ltb, eqb}
 use lib.ListN.{length, getD, drop, take as firstOf}
 use Rattle.finite.specs.Finite.{tabulate}
@@ -77,3 +77,46 @@ requestAt s calls text i = requestOf s (callAt calls text i)
 -- the first n calls of the numbers
 abbrev pub callsIn : (calls text : List ℕ) → (n : ℕ) → List Call
 callsIn calls text n = tabulate n (callAt calls text)
+
+-- a call in numbers, and a list of calls: the texts one after the other, each call given its own part
+abbrev pub textOf : Call → List ℕ
+textOf (take hour unit kwh) = []
+textOf (release hour unit kwh) = []
+textOf (move hour from to kwh) = []
+textOf (settle text start) = text
+textOf (restate text start) = text
+textOf (void hour) = []
+
+abbrev pub numbersOf : (at : ℕ) → Call → List ℕ
+numbersOf at (take hour unit kwh) = 1 ∷ hour ∷ unit ∷ 0 ∷ kwh ∷ 0 ∷ 0 ∷ 0 ∷ []
+numbersOf at (release hour unit kwh) = 2 ∷ hour ∷ unit ∷ 0 ∷ kwh ∷ 0 ∷ 0 ∷ 0 ∷ []
+numbersOf at (move hour from to kwh) = 3 ∷ hour ∷ from ∷ to ∷ kwh ∷ 0 ∷ 0 ∷ 0 ∷ []
+numbersOf at (settle text start) = 4 ∷ 0 ∷ 0 ∷ 0 ∷ 0 ∷ at ∷ (at + length text) ∷ start ∷ []
+numbersOf at (restate text start) = 5 ∷ 0 ∷ 0 ∷ 0 ∷ 0 ∷ at ∷ (at + length text) ∷ start ∷ []
+numbersOf at (void hour) = 6 ∷ hour ∷ 0 ∷ 0 ∷ 0 ∷ 0 ∷ 0 ∷ 0 ∷ []
+
+unfoldable pub textsOf : List Call → List ℕ
+textsOf [] = []
+textsOf (c ∷ cs) = textOf c ++ textsOf cs
+
+unfoldable pub numbersFrom : (at : ℕ) → List Call → List ℕ
+numbersFrom at [] = []
+numbersFrom at (c ∷ cs) = numbersOf at c ++ numbersFrom (at + length (textOf c)) cs
+
+-- numbers that a machine word holds: below n
+abbrev pub Below : ℕ → List ℕ → Type 0
+Below n [] = Unit {0}
+Below n (x ∷ xs) = (x < n) × Below n xs
+
+-- the hour, units, kWh and start of a call
+abbrev pub given : Call → List ℕ
+given (take hour unit kwh) = hour ∷ unit ∷ kwh ∷ []
+given (release hour unit kwh) = hour ∷ unit ∷ kwh ∷ []
+given (move hour from to kwh) = hour ∷ from ∷ to ∷ kwh ∷ []
+given (settle text start) = start ∷ []
+given (restate text start) = start ∷ []
+given (void hour) = hour ∷ []
+
+abbrev pub AllBelow : ℕ → List Call → Type 0
+AllBelow n [] = Unit {0}
+AllBelow n (c ∷ cs) = Below n (given c) × AllBelow n cs

@@ -1,12 +1,23 @@
 // Runs worked examples of the sources (000 and 001) that the scope document reproduces, and prints a line for each: the example's
 // number, then its figures.
+use allocation::Plant;
 use energy::GrossKwh;
 use energy::HubGrains;
 use energy::HubKwh;
 use energy::NetKwh;
 use formulas::Deviations;
 use libc::STDOUT_FILENO;
-ghost use Prim.Native.Nat.{_≤_};
+use offer::Offer;
+use record::Span;
+use record::UnitRecord;
+ghost use mathlib.Core.Path.{_≡_};
+ghost use mathlib.Core.Bool.{true};
+ghost use Prim.Native.Nat.{ℕ, _≤_, _<_};
+ghost use lib.ListN.{getD};
+ghost use Rattle.offer.specs.Offer.{offerHolds};
+ghost use Rattle.allocation.specs.Allocation.{PlantHolds};
+ghost use Rattle.record.specs.Hour.{noSpan};
+ghost use Rattle.record.proofs.InRange.{SpanInRange};
 ghost use Rattle.formulas.specs.Items.{Bounded, weighted};
 
 fn say(words: &[u8]) {
@@ -17,6 +28,65 @@ fn say_number(n: u64) {
     io::print_decimal(STDOUT_FILENO, n);
 }
 
+// A further number of a line.
+fn say_next(n: u64) {
+    say(b" ");
+    say_number(n);
+}
+
+// An offer of two steps.
+fn two_steps(quantity: u64, price: u64, next_quantity: u64, next_price: u64) -> Offer
+    requires { ⌜ (1 ≤ quantity) × (quantity < «next_quantity») × («next_quantity» ≤ 1000000) × (price ≤ «next_price») × («next_price» ≤ 10000000) ⌝ }
+    ensures { λ r. ⌜ offerHolds r ≡ true ⌝ }
+{
+    let mut quantities = [HubKwh(0); 10];
+    quantities[0] = HubKwh(quantity);
+    quantities[1] = HubKwh(next_quantity);
+    let mut prices = [0u64; 10];
+    prices[0] = price;
+    prices[1] = next_price;
+    Offer {
+        steps: 2,
+        quantity: quantities,
+        price: prices,
+    }
+}
+
+// The plant of example 12 in its first case: three units.
+fn plant_12() -> Plant
+    ensures { λ r. ⌜ PlantHolds r ⌝ }
+{
+    let mut real = [NetKwh(0); 8];
+    real[0] = NetKwh(120000);
+    real[1] = NetKwh(150000);
+    real[2] = NetKwh(130000);
+    let mut commitment = [HubKwh(0); 8];
+    commitment[0] = HubKwh(20000);
+    commitment[1] = HubKwh(50000);
+    let mut offers = [offer::no_offer(); 8];
+    offers[0] = two_steps(50000, 380000, 130000, 440000);
+    offers[1] = two_steps(110000, 370000, 160000, 444000);
+    offers[2] = two_steps(80000, 390000, 140000, 430000);
+    Plant {
+        loss: 100,
+        units: 7,
+        real: real,
+        nominal: [GrossKwh(100000); 8],
+        commitment: commitment,
+        offer: offers,
+    }
+}
+
+// The shares of the three units, in grains.
+fn example_12() {
+    let energy = allocation::allocate(NetKwh(320000), NetKwh(0), plant_12());
+    say(b"12");
+    say_next(energy[0].0);
+    say_next(energy[1].0);
+    say_next(energy[2].0);
+    say(b"\n");
+}
+
 // A of 120,000 on a day.
 fn example_13(month: u64, day: u64) {
     let season = formulas::in_season(month, day);
@@ -24,6 +94,64 @@ fn example_13(month: u64, day: u64) {
     say(b"13 ");
     say_number(allowed.0);
     say(b"\n");
+}
+
+// The split of the deviation of a unit with an own use of 1 per cent, by its test criterion and its spans: d2 to d7.
+fn split_example(number: u64, test: NetKwh, deviation: NetKwh, spans: usize, span: [Span; 6])
+    requires { ⌜ (test .0 ≤ 1000000) × (deviation .0 ≤ 1000000) × (1 ≤ spans) × (spans ≤ 6) ⌝ }
+    requires { ⌜ ((i : ℕ) → i < spans → SpanInRange (getD span i noSpan)) ⌝ }
+{
+    let u = UnitRecord {
+        declared: GrossKwh(0),
+        real: NetKwh(0),
+        test: test,
+        deviation: deviation,
+        power: GrossKwh(0),
+        measured: false,
+        reading: NetKwh(0),
+        since: 1,
+        repair: 0,
+        spans: spans,
+        span: span,
+    };
+    let d = settlement::split(100, u);
+    say_number(number);
+    say_next(d.kwh[0]);
+    say_next(d.kwh[1]);
+    say_next(d.kwh[2]);
+    say_next(d.kwh[3]);
+    say_next(d.kwh[4]);
+    say_next(d.kwh[5]);
+    say(b"\n");
+}
+
+fn span_of(minutes: u64, kind: u64, cause: u64, capability: GrossKwh) -> Span
+    requires { ⌜ (1 ≤ minutes) × (minutes ≤ 60) × (1 ≤ kind) × (kind ≤ 7) × (cause ≤ 2) × (capability .0 ≤ 1000000) ⌝ }
+    ensures { λ r. ⌜ SpanInRange r ⌝ }
+{
+    Span {
+        minutes: minutes,
+        kind: kind,
+        cause: cause,
+        capability: capability,
+    }
+}
+
+// Kinds 2 and 3.
+fn example_16() {
+    let mut span = [record::no_span(); 6];
+    span[0] = span_of(20, 1, 0, GrossKwh(135000));
+    span[1] = span_of(30, 2, 0, GrossKwh(110000));
+    span[2] = span_of(10, 3, 0, GrossKwh(105000));
+    split_example(16, NetKwh(135000), NetKwh(17500), 3, span);
+}
+
+// Kind 2, once of environmental cause.
+fn example_18() {
+    let mut span = [record::no_span(); 6];
+    span[0] = span_of(40, 2, 0, GrossKwh(40000));
+    span[1] = span_of(20, 2, 1, GrossKwh(20000));
+    split_example(18, NetKwh(80000), NetKwh(46000), 2, span);
 }
 
 // The commitment of 150,000 hub kWh leaves nothing of the declared 150,000.
@@ -60,18 +188,45 @@ fn refund_example(number: u64, real: NetKwh, d: Deviations, a: GrossKwh)
     let allowed = energy::net_of(a, 200);
     let short = formulas::refund_kwh(declared, real, d, allowed);
     say_number(number);
-    say(b" ");
-    say_number(short.0);
-    say(b" ");
-    say_number(formulas::refund(declared, real, d, allowed, 1500, 185000));
+    say_next(short.0);
+    say_next(formulas::refund(declared, real, d, allowed, 1500, 185000));
+    say(b"\n");
+}
+
+// The offer of examples 41, 42 and 44.
+fn four_steps() -> Offer
+    ensures { λ r. ⌜ offerHolds r ≡ true ⌝ }
+{
+    let mut quantities = [HubKwh(0); 10];
+    quantities[0] = HubKwh(59000);
+    quantities[1] = HubKwh(127000);
+    quantities[2] = HubKwh(199000);
+    quantities[3] = HubKwh(249000);
+    Offer {
+        steps: 4,
+        quantity: quantities,
+        price: [272000, 386000, 394000, 440000, 0, 0, 0, 0, 0, 0],
+    }
+}
+
+// What a unit is paid for so much energy by that offer, without a commitment.
+fn energy_example(number: u64, energy: HubGrains)
+    requires { ⌜ energy .0 ≤ 100000000000 ⌝ }
+{
+    let cost = offer::cost_between(four_steps(), HubKwh(0), 0, energy.0);
+    say_number(number);
+    say_next(formulas::energy_pay(cost));
     say(b"\n");
 }
 
 fn main() {
+    example_12();
     example_13(3, 15);
     example_13(6, 15);
     example_13(3, 14);
     example_13(6, 16);
+    example_16();
+    example_18();
     example_21();
     refund_example(
         23,
@@ -142,4 +297,7 @@ fn main() {
         2,
         1980,
     );
+    energy_example(41, HubGrains(1200000000));
+    energy_example(42, HubGrains(750000000));
+    energy_example(44, HubGrains(1200000000));
 }

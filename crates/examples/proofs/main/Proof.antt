@@ -1,10 +1,14 @@
 -- The figures given are within the formulas' ranges.
+-- Assumes nothing.
 use native.Mathlib.Omega.{arith}
 use borrow.Author.Needs.{needs}
 use Rattle.formulas.specs.Items.{weighted}
 use Rattle.examples.proofs.Short.{short}
 use Rattle.examples.proofs.main.Statement.{statement}
 use Rattle.examples.proofs.main.Tie as tie
+
+example-12-requires : tie.Need-example-12-requires
+example-12-requires c κs = search needs
 
 example-13-requires : tie.Need-example-13-requires
 example-13-requires c κs = search needs
@@ -17,6 +21,12 @@ example-13-requires-3 c κs = search needs
 
 example-13-requires-4 : tie.Need-example-13-requires-4
 example-13-requires-4 c κs = search needs
+
+example-16-requires : tie.Need-example-16-requires
+example-16-requires c κs = search needs
+
+example-18-requires : tie.Need-example-18-requires
+example-18-requires c κs = search needs
 
 example-21-requires : tie.Need-example-21-requires
 example-21-requires c κs = search needs
@@ -50,6 +60,15 @@ test-example-requires-5 : tie.Need-test-example-requires-5
 unfolding weighted
 test-example-requires-5 c κs = (λ i l. short 0 0 0 0 40000 0 i (omega arith) (omega arith) (omega arith) (omega arith) (omega arith) (omega arith), omega arith, omega arith)
 
+energy-example-requires : tie.Need-energy-example-requires
+energy-example-requires c κs = search needs
+
+energy-example-requires-2 : tie.Need-energy-example-requires-2
+energy-example-requires-2 c κs = search needs
+
+energy-example-requires-3 : tie.Need-energy-example-requires-3
+energy-example-requires-3 c κs = search needs
+
 returns : tie.Need-returns
 returns c = search needs
 
@@ -57,10 +76,13 @@ pub main-spec : {M : Type 1} → statement M
 main-spec =
     tie.close
     (tie.spec
+    example-12-requires
     example-13-requires
     example-13-requires-2
     example-13-requires-3
     example-13-requires-4
+    example-16-requires
+    example-18-requires
     example-21-requires
     refund-example-requires
     refund-example-requires-2
@@ -70,4 +92,7 @@ main-spec =
     test-example-requires-3
     test-example-requires-4
     test-example-requires-5
+    energy-example-requires
+    energy-example-requires-2
+    energy-example-requires-3
     returns)
