@@ -55,7 +55,7 @@ length-written o [] = refl
 length-written o (b ∷ bs) = length-written (withByte o b) bs ∙ length-byte o b
 
 -- a number below 10 is one digit
-one-digit : (left n : ℕ) → n < 10 → digitsIn left n ≡ (48 + n) ∷ []
+pub one-digit : (left n : ℕ) → n < 10 → digitsIn left n ≡ (48 + n) ∷ []
 unfolding digitsIn
 one-digit zero n h = refl
 one-digit (suc left) n h = rw (lt-ltb n 10 h)
@@ -64,7 +64,7 @@ pub digits-one : (n : ℕ) → n < 10 → digits n ≡ (48 + n) ∷ []
 unfolding digits
 digits-one n h = one-digit n n h
 
-more-digits : (left n : ℕ) → 10 ≤ n → digitsIn (suc left) n ≡ digitsIn left (n / 10) ++ ((48 + n % 10) ∷ [])
+pub more-digits : (left n : ℕ) → 10 ≤ n → digitsIn (suc left) n ≡ digitsIn left (n / 10) ++ ((48 + n % 10) ∷ [])
 unfolding digitsIn
 more-digits left n h = rw (le-ltb n 10 h)
 

@@ -1,9 +1,9 @@
 -- A lent buffer, written byte by byte from a place on.
-use Prim.Native.Nat.{ℕ, _+_}
+use Prim.Native.Nat.{ℕ, _+_, min}
 use mathlib.Core.Bool.{cond}
-use mathlib.Core.List.{List, [], _∷_}
+use mathlib.Core.List.{List, [], _∷_, _++_}
 use lib.Dec.{ltb}
-use lib.ListN.{length, set}
+use lib.ListN.{length, set, take, drop}
 
 -- the buffer, and the place where the next byte goes
 pub record Output : Type 0 where
@@ -21,3 +21,7 @@ withByte o b = cond (ltb (o .place) (length (o .buffer))) (output (set (o .buffe
 unfoldable pub written : Output → List ℕ → Output
 written o [] = o
 written o (b ∷ bs) = written (withByte o b) bs
+
+-- a buffer with bytes written from its start on: as many as it has room for; what stands behind them stays
+abbrev pub filled : List ℕ → List ℕ → Output
+filled buffer bs = output (take (length buffer) bs ++ drop (length bs) buffer) (min (length bs) (length buffer))

@@ -1,5 +1,5 @@
 -- What the statement prints (01, Program and marked figures), as bytes: 10 is LF, 32 a space.
-use Prim.Native.Nat.{ℕ, zero, suc, _+_}
+use Prim.Native.Nat.{ℕ, zero, suc, _+_, _*_}
 use mathlib.Core.Bool.{cond}
 use mathlib.Core.List.{List, [], _∷_, _++_}
 use lib.Dec.{eqb}
@@ -10,6 +10,22 @@ use Rattle.settlement.specs.declared.Amounts.{Amounts}
 use Rattle.state.specs.declared.Book.{Book}
 use Rattle.state.specs.Sizes.{hours, places, items}
 use Rattle.state.specs.Book.{markAt, energyAt, amountsAt, itemOf, settledMark}
+
+-- the most bytes that a number, a field, a line, an hour and a whole statement have, as numbers are machine words
+abbrev pub mostNumber : ℕ
+mostNumber = 20
+
+abbrev pub mostField : ℕ
+mostField = mostNumber + 1
+
+abbrev pub mostLine : ℕ
+mostLine = mostNumber + (2 + items) * mostField + 1
+
+abbrev pub mostHour : ℕ
+mostHour = places * mostLine
+
+abbrev pub mostBytes : ℕ
+mostBytes = hours * mostHour
 
 -- the bytes f 0, f 1, .., f (n - 1), one after the other
 unfoldable pub joined : ℕ → (ℕ → List ℕ) → List ℕ

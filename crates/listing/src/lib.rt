@@ -1,9 +1,9 @@
 // The lines of the statement, written into a lent buffer: settled hours, or a refusal.
 ghost use mathlib.Core.Path.{_≡_};
-ghost use Prim.Native.Nat.{_<_};
+ghost use Prim.Native.Nat.{_+_, _*_, _≤_, _<_};
 ghost use Rattle.state.specs.Sizes.{hours, places, items};
 ghost use Rattle.decimal.specs.Output.{output, written};
-ghost use Rattle.listing.specs.Listing.{joined, numberField, itemField, unitLine, placeLine, hourLines, settledLines, refusalLine};
+ghost use Rattle.listing.specs.Listing.{mostField, mostLine, mostHour, mostBytes, joined, numberField, itemField, unitLine, placeLine, hourLines, settledLines, refusalLine};
 use energy::HubGrains;
 use settlement::Amounts;
 use state::Book;
@@ -11,6 +11,7 @@ use state::Book;
 // A number behind a space.
 fn put_number_field(out: &mut [u8], at: usize, n: u64) -> usize
     ensures { λ r. ⌜ output (now (out .exit)) r ≡ written (output (now (out .entry)) at) (numberField n) ⌝ }
+    ensures { λ r. ⌜ r ≤ at + mostField ⌝ }
 {
     let place = decimal::put_byte(out, at, b' ');
     decimal::put_number(out, place, n)
@@ -20,6 +21,7 @@ fn put_number_field(out: &mut [u8], at: usize, n: u64) -> usize
 fn put_item_field(out: &mut [u8], at: usize, amounts: Amounts, i: usize) -> usize
     requires { ⌜ i < items ⌝ }
     ensures { λ r. ⌜ output (now (out .exit)) r ≡ written (output (now (out .entry)) at) (itemField amounts i) ⌝ }
+    ensures { λ r. ⌜ r ≤ at + mostField ⌝ }
 {
     let place = decimal::put_byte(out, at, b' ');
     decimal::put_signed(out, place, amounts.item[i])
@@ -27,6 +29,7 @@ fn put_item_field(out: &mut [u8], at: usize, amounts: Amounts, i: usize) -> usiz
 
 fn put_items(out: &mut [u8], at: usize, amounts: Amounts) -> usize
     ensures { λ r. ⌜ output (now (out .exit)) r ≡ written (output (now (out .entry)) at) (joined items (itemField amounts)) ⌝ }
+    ensures { λ r. ⌜ r ≤ at + items * mostField ⌝ }
 {
     let mut place = at;
     let mut i: usize = 0;
@@ -47,6 +50,7 @@ pub fn put_unit_line(
     amounts: Amounts,
 ) -> usize
     ensures { λ r. ⌜ output (now (out .exit)) r ≡ written (output (now (out .entry)) at) (unitLine hour unit (grains .0) amounts) ⌝ }
+    ensures { λ r. ⌜ r ≤ at + mostLine ⌝ }
 {
     let a = decimal::put_number(out, at, hour);
     let b = put_number_field(out, a, unit);
@@ -59,6 +63,7 @@ pub fn put_unit_line(
 fn put_place(out: &mut [u8], at: usize, units: u64, book: Book, h: usize, k: usize) -> usize
     requires { ⌜ (h < hours) × (k < places) ⌝ }
     ensures { λ r. ⌜ output (now (out .exit)) r ≡ written (output (now (out .entry)) at) (placeLine units book h k) ⌝ }
+    ensures { λ r. ⌜ r ≤ at + mostLine ⌝ }
 {
     if units::member_at(units, k) {
         let grains = state::energy_at(book, h, k);
@@ -71,6 +76,7 @@ fn put_place(out: &mut [u8], at: usize, units: u64, book: Book, h: usize, k: usi
 fn put_places(out: &mut [u8], at: usize, units: u64, book: Book, h: usize) -> usize
     requires { ⌜ h < hours ⌝ }
     ensures { λ r. ⌜ output (now (out .exit)) r ≡ written (output (now (out .entry)) at) (joined places (placeLine units book h)) ⌝ }
+    ensures { λ r. ⌜ r ≤ at + mostHour ⌝ }
 {
     let mut place = at;
     let mut k: usize = 0;
@@ -85,6 +91,7 @@ fn put_places(out: &mut [u8], at: usize, units: u64, book: Book, h: usize) -> us
 fn put_hour(out: &mut [u8], at: usize, units: u64, book: Book, h: usize) -> usize
     requires { ⌜ h < hours ⌝ }
     ensures { λ r. ⌜ output (now (out .exit)) r ≡ written (output (now (out .entry)) at) (hourLines units book h) ⌝ }
+    ensures { λ r. ⌜ r ≤ at + mostHour ⌝ }
 {
     if state::mark_at(book, h) == 1 {
         return put_places(out, at, units, book, h);
@@ -95,6 +102,7 @@ fn put_hour(out: &mut [u8], at: usize, units: u64, book: Book, h: usize) -> usiz
 // The settled hours.
 pub fn put_settled(out: &mut [u8], at: usize, units: u64, book: Book) -> usize
     ensures { λ r. ⌜ output (now (out .exit)) r ≡ written (output (now (out .entry)) at) (settledLines units book) ⌝ }
+    ensures { λ r. ⌜ r ≤ at + mostBytes ⌝ }
 {
     let mut place = at;
     let mut h: usize = 0;
@@ -108,6 +116,7 @@ pub fn put_settled(out: &mut [u8], at: usize, units: u64, book: Book) -> usize
 // The line of a refusal.
 pub fn put_refusal(out: &mut [u8], at: usize, number: u64) -> usize
     ensures { λ r. ⌜ output (now (out .exit)) r ≡ written (output (now (out .entry)) at) (refusalLine number) ⌝ }
+    ensures { λ r. ⌜ r ≤ at + mostLine ⌝ }
 {
     let a = decimal::put_bytes(out, at, b"refused=");
     let b = decimal::put_number(out, a, number);

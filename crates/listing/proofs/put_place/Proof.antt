@@ -1,5 +1,6 @@
 -- A unit of the plant has its line, another none.
 -- Assumes nothing.
+use native.Mathlib.Omega.{arith}
 use Prim.Native.Nat.{_+_}
 use mathlib.Core.Path.{sym, ap₂, _∙_}
 use Rattle.energy.specs.declared.HubGrains.{HubGrains}
@@ -36,14 +37,16 @@ returns : tie.Need-returns
 unfolding placeLine
 returns c =
     let g = c .before .before .before .before .before .before .before .before .before .args in
-    let o = output (g .out .now) (g .at) in
-    c .before .before .put-unit-line .ensures
-    ∙ (ap₂ (λ (e : HubGrains) (a : Amounts). written o (unitLine (g .h + 1) (g .k + 1) (e .0) a)) (c .before .before .before .before .before .energy-at .ensures) (c .before .before .before .before .amounts-at .ensures)
-    ∙ simp (sym (c .before .before .before .before .before .before .before .member-at .ensures) ∙ c .before .before .before .before .before .before .if1 .taken))
+    let o = output (g .out .now) (g .at) in (
+      c .before .before .put-unit-line .ensures .0
+          ∙ (ap₂ (λ (e : HubGrains) (a : Amounts). written o (unitLine (g .h + 1) (g .k + 1) (e .0) a)) (c .before .before .before .before .before .energy-at .ensures) (c .before .before .before .before .amounts-at .ensures)
+          ∙ simp (sym (c .before .before .before .before .before .before .before .member-at .ensures) ∙ c .before .before .before .before .before .before .if1 .taken)),
+      c .before .before .put-unit-line .ensures .1,
+    )
 
 returns-2 : tie.Need-returns-2
 unfolding placeLine
-returns-2 c = simp (sym (c .before .member-at .ensures) ∙ c .if1 .left) (sym (written-none _))
+returns-2 c = (simp (sym (c .before .member-at .ensures) ∙ c .if1 .left) (sym (written-none _)), omega arith)
 
 pub put-place-spec : {M : Type 1} → statement M
 put-place-spec =

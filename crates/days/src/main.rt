@@ -1,5 +1,6 @@
-// Runs the readers over the files that the arguments name, and says of each what was read and what was refused:
-// the sheet from place 0, then a record at each line behind it that begins `hour=`, at the text's end, and one past it.
+// Runs the readers and the statement over the files that the arguments name. First it says of each file what was read and what was refused: the
+// sheet from place 0, then a record at each line behind it that begins `hour=`, at the text's end, and one past it. Then it prints of each file
+// its name and its statement.
 use energy::GrossKwh;
 use libc::STDOUT_FILENO;
 use lines::ReadAnswer;
@@ -97,7 +98,16 @@ fn sheet_of(name: &[u8], text: &[u8]) {
     }
 }
 
-fn file_of(i: usize) {
+fn statement_of(name: &[u8], text: &[u8]) {
+    let mut out = [0u8; 32768];
+    let n = account::statement_of(text, &mut out);
+    say(name);
+    say(b"\n");
+    say(&out[..n]);
+}
+
+// File i: what is read of it, or its statement.
+fn file_of(i: usize, readings: bool) {
     let mut name = io::buffer();
     let length = os::arg(i, &mut name);
     let file = os::open_read(&name[..length]);
@@ -105,17 +115,26 @@ fn file_of(i: usize) {
         os::fail(&name[..length]);
         return;
     }
-    let mut text = [0u8; 70000];
+    let mut text = [0u8; 65537];
     let size = io::read_full(file, &mut text);
     libc::close(file);
-    sheet_of(&name[..length], &text[..size]);
+    if readings {
+        sheet_of(&name[..length], &text[..size]);
+    } else {
+        statement_of(&name[..length], &text[..size]);
+    }
+}
+
+fn files(n: usize, readings: bool) {
+    let mut i: usize = 1;
+    while i < n {
+        file_of(i, readings);
+        i += 1;
+    }
 }
 
 fn main() {
     let n = os::arg_count();
-    let mut i: usize = 1;
-    while i < n {
-        file_of(i);
-        i += 1;
-    }
+    files(n, true);
+    files(n, false);
 }

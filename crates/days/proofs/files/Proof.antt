@@ -1,17 +1,14 @@
 -- The arguments are gone through one by one.
 use Prim.Native.Nat.{_-_}
 use borrow.Author.Needs.{needs}
-use Rattle.texts.proofs.main.Statement.{statement}
-use Rattle.texts.proofs.main.Tie as tie
+use Rattle.days.proofs.files.Statement.{statement}
+use Rattle.days.proofs.files.Tie as tie
 
 abbrev Inv-loop : tie.InvT-loop
-Inv-loop n i₀ i = Unit
+Inv-loop n readings i₀ i = Unit
 
 abbrev μ-loop : tie.MeasureT-loop
-μ-loop n i₀ i = n - i
-
-arg-count-requires : tie.Need-arg-count-requires Inv-loop μ-loop
-arg-count-requires c κs = search needs
+μ-loop n readings i₀ i = n - i
 
 loop-holds : tie.Need-loop-holds Inv-loop μ-loop
 loop-holds c = search needs
@@ -31,13 +28,12 @@ loop-again c = search needs
 returns : tie.Need-returns Inv-loop μ-loop
 returns c = search needs
 
-pub main-spec : {M : Type 1} → statement M
-main-spec =
+pub files-spec : {M : Type 1} → statement M
+files-spec =
     tie.close
     (tie.spec
     Inv-loop
     μ-loop
-    arg-count-requires
     loop-holds
     file-of-requires
     add-i

@@ -2,8 +2,8 @@
 use Prim.Native.Nat.{_-_}
 use lib.ListN.{length}
 use borrow.Author.Needs.{needs}
-use Rattle.texts.proofs.records_of.Statement.{statement}
-use Rattle.texts.proofs.records_of.Tie as tie
+use Rattle.days.proofs.records_of.Statement.{statement}
+use Rattle.days.proofs.records_of.Tie as tie
 
 abbrev Inv-loop : tie.InvT-loop
 Inv-loop name text from units monthly at₀ at = Unit
