@@ -50,7 +50,7 @@ returns c =
     let o1 = output (c .before .before .before .before .before .before .put-bytes .last .0) (c .before .before .before .before .before .before .put-bytes .result) in
     simp (sym (c .before .before .before .before .before .before .before .before .before .before .before .before .member-at .ensures) ∙ c .before .before .before .before .before .before .before .before .before .before .before .if1 .taken)
     (then o o1 (bytes "settled ") (unitLine (g .h + 1) (g .k + 1) (energyAt (g .book) (g .h) (g .k) .0) (amountsAt (g .book) (g .h) (g .k))) (c .before .before .before .before .before .before .put-bytes .ensures)
-    (c .before .before .put-unit-line .ensures ∙ ap₂ (λ (e : HubGrains) (a : Amounts). written o1 (unitLine (g .h + 1) (g .k + 1) (e .0) a)) (c .before .before .before .before .before .before .before .before .before .before .energy-at .ensures) (c .before .before .before .before .before .before .before .before .before .amounts-at .ensures)))
+    (c .before .before .put-unit-line .ensures .0 ∙ ap₂ (λ (e : HubGrains) (a : Amounts). written o1 (unitLine (g .h + 1) (g .k + 1) (e .0) a)) (c .before .before .before .before .before .before .before .before .before .before .energy-at .ensures) (c .before .before .before .before .before .before .before .before .before .amounts-at .ensures)))
 
 returns-2 : tie.Need-returns-2
 unfolding settledLine
