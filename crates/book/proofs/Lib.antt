@@ -22,3 +22,4 @@ pub mod Numbered
 pub mod Onward
 pub mod Coded
 pub mod Fitting
+pub mod Exactly
