@@ -1,12 +1,15 @@
 // What C and Rust programs call: slices of bytes and numbers in, slices of numbers out. include/gozalvek.h says what each argument is.
 ghost use mathlib.Core.Path.{_≡_};
-ghost use Prim.Native.Nat.{_<_};
-ghost use lib.ListN.{set};
-ghost use Rattle.exports.specs.Exports.{commitmentNumbers, markNumbers, energyNumbers, heldNumbers, itemNumbers, amountNumbers, Left, calledOf};
+ghost use Prim.Native.Nat.{_<_, _≤_, min};
+ghost use lib.ListN.{length, set};
+ghost use Rattle.exports.specs.Exports.{commitmentNumbers, markNumbers, energyNumbers, heldNumbers, itemNumbers, amountNumbers, signedOf, postingStored, listedTo, mostPlaces, Owned, ownedOf, Left, calledOf};
 use energy::HubGrains;
 use energy::HubKwh;
+use journal::Ran;
 use lines::ReadAnswer;
+use postings::Posting;
 use settlement::Amounts;
+use sheet::Sheet;
 use state::Book;
 
 // A number stored at a place, where there is such.
@@ -94,19 +97,91 @@ fn put_held(out: &mut [u64], book: Book)
     put_energies(out, book);
 }
 
-// A list of calls under the sheet of a text, over a journal of 2,000 places. Gives the number of the sheet's refusal, or 0.
+// A number as a signed one, 0 where it is none.
+fn signed(x: u64) -> i64
+    ensures { λ r. ⌜ r ≡ signedOf x ⌝ }
+{
+    if x < 9223372036854775808 {
+        return x as i64;
+    }
+    0
+}
+
+// Posting k in four places, where there are such: hour, unit, item, amount.
+fn put_posting(out: &mut [i64], k: usize, x: Posting)
+    ensures { λ _. ⌜ now (out .exit) ≡ postingStored (now (out .entry)) k x ⌝ }
+{
+    if k < out.len() / 4 {
+        let at = 4 * k;
+        out[at] = signed(x.hour);
+        out[at + 1] = signed(x.unit);
+        out[at + 2] = signed(x.item);
+        let amount = x.amount;
+        out[at + 3] = amount;
+    }
+}
+
+// The journal list, place by place.
+fn listed(list: &mut [Posting], out: &mut [i64])
+    ensures { λ _. ⌜ (now (out .exit) ≡ listedTo (now (out .entry)) (now (list .entry)) (length (now (list .entry)))) × (now (list .exit) ≡ now (list .entry)) ⌝ }
+{
+    let n = list.len();
+    let mut k: usize = 0;
+    while k < n {
+        let x = list[k];
+        put_posting(out, k, x);
+        k += 1;
+    }
+}
+
+// A list of calls over a journal list of so many places of its own, and the list as they leave it.
+fn owned(
+    sheet: Sheet,
+    places: usize,
+    calls: &[u64],
+    text: &[u8],
+    answers: &mut [u64],
+    out: &mut [i64],
+) -> Ran
+    requires { ⌜ places ≤ mostPlaces ⌝ }
+    ensures { λ r. ⌜ record { ran = r; answers = now (answers .exit); postings = now (out .exit) } ≡ ownedOf sheet places (now (calls .entry)) (now (text .entry)) (now (answers .entry)) (now (out .entry)) ⌝ }
+{
+    let mut list = [Posting {
+        hour: 0,
+        unit: 0,
+        item: 0,
+        amount: 0,
+    }; 100040];
+    let ran = journal::run(&mut list[..places], sheet, calls, text, answers);
+    listed(&mut list[..places], out);
+    ran
+}
+
+// The length of a journal list.
+fn length_of(places: u64) -> usize
+    ensures { λ r. ⌜ r ≡ min places mostPlaces ⌝ }
+{
+    if places < 100040 {
+        return places as usize;
+    }
+    100040
+}
+
+// A list of calls under the sheet of a text, over a journal list of so many places. Gives the number of the sheet's refusal, or 0.
 #[no_mangle]
 pub extern "C" fn gozalvek_calls(
     sheet: &[u8],
+    places: u64,
     calls: &[u64],
     text: &[u8],
     answers: &mut [u64],
     held: &mut [u64],
     amounts: &mut [i64],
+    postings: &mut [i64],
     line: &mut u64,
     count: &mut u64,
 ) -> u64
-    ensures { λ r. ⌜ record { number = r; line = now (line .exit); count = now (count .exit); answers = now (answers .exit); held = now (held .exit); amounts = now (amounts .exit) } ≡ calledOf (now (sheet .entry)) (now (calls .entry)) (now (text .entry)) (now (answers .entry)) (now (held .entry)) (now (amounts .entry)) ⌝ }
+    ensures { λ r. ⌜ record { number = r; line = now (line .exit); count = now (count .exit); answers = now (answers .exit); held = now (held .exit); amounts = now (amounts .exit); postings = now (postings .exit) } ≡ calledOf (now (sheet .entry)) places (now (calls .entry)) (now (text .entry)) (now (answers .entry)) (now (held .entry)) (now (amounts .entry)) (now (postings .entry)) ⌝ }
 {
     let read = sheet::read_sheet(sheet, 0);
     let answer = read.answer;
@@ -118,7 +193,8 @@ pub extern "C" fn gozalvek_calls(
             lines::text_number(refusal)
         }
         ReadAnswer::Read(_) => {
-            let ran = journal::day(day_sheet, calls, text, answers);
+            let n = length_of(places);
+            let ran = owned(day_sheet, n, calls, text, answers, postings);
             let book = ran.book;
             *line = 0;
             *count = ran.count;
