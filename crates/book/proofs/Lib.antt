@@ -21,3 +21,5 @@ pub mod Places
 pub mod Numbered
 pub mod Onward
 pub mod Coded
+pub mod Fitting
+pub mod Exactly

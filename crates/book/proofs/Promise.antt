@@ -28,16 +28,17 @@ use Rattle.settlement.specs.Hour.{hourResult, plantOf}
 use Rattle.settlement.proofs.Laws.{energy-length, hour-allocated}
 use Rattle.state.specs.Book.{commitmentAt, energyAt, hourCommitments, noGrains}
 use Rattle.postings.specs.declared.Posting.{Posting}
-use Rattle.postings.specs.Journal.{totalOf}
+use Rattle.postings.specs.Journal.{postedHold, totalOf}
 use Rattle.postings.proofs.Totals.{total-nothing}
 use Rattle.book.specs.declared.Verdict.the-variants.{Accepted}
-use Rattle.book.specs.Ledger.{Call, void, Kept, none, kept, Ledger, Reply, emptyLedger, hourHeld, energyFor, amountFor, amountIn, ledgerFits, conditionsOf, run}
+use Rattle.book.specs.Ledger.{Call, void, Kept, none, kept, Ledger, Reply, emptyLedger, hourHeld, energyFor, amountFor, amountIn, conditionsOf, run}
 use Rattle.book.specs.Reckoned.{accepted, took, gave, lastFrom, sumZ}
-use Rattle.book.specs.Calls.{State, ranFrom, begun}
+use Rattle.book.specs.Calls.{State, bookFits, ranFrom, begun}
 use Rattle.book.specs.Total.{totalBy, itemOf, totalDecided, totalOn}
 use Rattle.book.specs.Agrees.{Agrees}
 use Rattle.book.specs.Demand.{noneHolds, replyAt, hourEnergies, reckoned, standing, Demand}
 use Rattle.book.proofs.Fits.{fits-same}
+use Rattle.book.proofs.Fitting.{run-fits}
 use Rattle.book.proofs.Held.{run-held}
 use Rattle.book.proofs.Standing.{run-record}
 use Rattle.book.proofs.Signed.{sumZ-same, sumZ-none}
@@ -135,14 +136,17 @@ module _ (sheet : Sheet) (journal : List Posting) (calls : List Call) where
       (λ j. totalOf (u j) (i j) (take (st .count) (st .journal)))
       ∙ posted (unit - 1) (item - 1) (ap (isMember (sheet .units)) (sym u) ∙ in-plant) (omega (arith, low, high))
 
+  fits : bookFits sheet (st .book) (st .count) (length (st .journal)) (postedHold (take (st .count) (st .journal))) ≡ true
+  fits = fits-same sheet (length journal) st l agree ∙ run-fits sheet (length journal) calls
+
   total : (unit item : ℕ)
       → totalOn sheet st unit item
-      ≡ totalBy (sheetHolds sheet) (ledgerFits sheet (length journal) l) (itemOf sheet unit item)
+      ≡ totalBy (sheetHolds sheet) true (itemOf sheet unit item)
       (sumZ 24 (λ h. amountFor sheet (standing sheet calls replies (h + 1)) (reckoned calls replies (h + 1)) (unit - 1) (item - 1)))
   unfolding totalOn totalDecided
   total unit item =
-      ap (λ (f : Bool). totalBy (sheetHolds sheet) f (itemOf sheet unit item) (totalOf unit item (take (st .count) (st .journal)))) (fits-same sheet (length journal) st l agree)
-      ∙ by-item (sheetHolds sheet) (ledgerFits sheet (length journal) l) (itemOf sheet unit item) _ _ (of-item unit item)
+      ap (λ (f : Bool). totalBy (sheetHolds sheet) f (itemOf sheet unit item) (totalOf unit item (take (st .count) (st .journal)))) fits
+      ∙ by-item (sheetHolds sheet) true (itemOf sheet unit item) _ _ (of-item unit item)
 
   pub promise : Demand sheet journal calls (ranFrom sheet (begun journal) calls .replies) (ranFrom sheet (begun journal) calls .state)
   promise =
@@ -163,4 +167,5 @@ module _ (sheet : Sheet) (journal : List Posting) (calls : List Call) where
             (hour-allocated sheet r (hourHeld (l .commitment hour)) (hour-ready sheet hour r (l .commitment hour) (ready .each hour r s)));
         postings = posted;
         totals = total;
+        in-ranges = fits;
       }

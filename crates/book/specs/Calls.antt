@@ -51,6 +51,17 @@ unfoldable pub verdict : List Row → Verdict
 verdict [] = passes
 verdict (r ∷ rs) = cond (r .holds) (fails (r .refusal)) (verdict rs)
 
+-- no row's condition holds
+unfoldable pub noneHold : List Row → Bool
+noneHold [] = true
+noneHold (r ∷ rs) = not (r .holds) && noneHold rs
+
+-- a call is accepted where its answer is no refusal
+abbrev pub isAccepted : Answer → Bool
+isAccepted Accepted = true
+isAccepted (Posted n) = true
+isAccepted (Refused r) = false
+
 abbrev pub badHour : ℕ → Bool
 badHour hour = ltb hour 1 || ltb 24 hour
 

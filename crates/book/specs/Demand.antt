@@ -17,10 +17,10 @@ use Rattle.settlement.specs.Hour.{plantOf}
 use Rattle.state.specs.declared.Book.{Book}
 use Rattle.state.specs.Book.{commitmentAt, energyAt, hourCommitments}
 use Rattle.postings.specs.declared.Posting.{Posting}
-use Rattle.postings.specs.Journal.{totalOf}
-use Rattle.book.specs.Ledger.{Call, void, Kept, none, kept, Condition, Reply, emptyLedger, amountFor, ledgerFits, conditionsOf, run}
+use Rattle.postings.specs.Journal.{postedHold, totalOf}
+use Rattle.book.specs.Ledger.{Call, void, Kept, none, kept, Condition, Reply, emptyLedger, amountFor, conditionsOf, run}
 use Rattle.book.specs.Reckoned.{accepted, took, gave, lastFrom, sumZ}
-use Rattle.book.specs.Calls.{State}
+use Rattle.book.specs.Calls.{State, bookFits}
 use Rattle.book.specs.Total.{totalBy, itemOf, totalOn}
 use Rattle.book.specs.Agrees.{Agrees}
 
@@ -66,8 +66,10 @@ pub record Demand (sheet : Sheet) (journal : List Posting) (calls : List Call) (
   pub postings : (k i : ℕ) → memberAt (sheet .units) k ≡ true → i < 5
       → totalOf (k + 1) (i + 1) (take (st .count) (st .journal))
       ≡ sumZ 24 (λ h. amountFor sheet (standing sheet calls replies (h + 1)) (reckoned calls replies (h + 1)) k i)
-  -- and that is what a total call then answers, where neither 9 nor 12 nor 11 holds
+  -- and that is what a total call then answers; only 9 and 11 can refuse it
   pub totals : (unit item : ℕ)
       → totalOn sheet st unit item
-      ≡ totalBy (sheetHolds sheet) (ledgerFits sheet (length journal) (run sheet (length journal) emptyLedger calls .ledger)) (itemOf sheet unit item)
+      ≡ totalBy (sheetHolds sheet) true (itemOf sheet unit item)
       (sumZ 24 (λ h. amountFor sheet (standing sheet calls replies (h + 1)) (reckoned calls replies (h + 1)) (unit - 1) (item - 1)))
+  -- book and journal stay in their ranges: 12 never refuses a call
+  pub in-ranges : bookFits sheet (st .book) (st .count) (length (st .journal)) (postedHold (take (st .count) (st .journal))) ≡ true

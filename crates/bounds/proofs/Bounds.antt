@@ -5,8 +5,8 @@ use mathlib.Core.Bool.{true}
 use mathlib.Core.List.{List, [], _∷_, _++_}
 use Rattle.finite.proofs.Tests.{and-left, and-right, and-both}
 use Rattle.bounds.specs.Given.{Free}
-use Rattle.bounds.specs.Rows.{Row, right, allRight, headRows, unitRows, offerRows, commitmentRows, markRows, energyRows, amountRows, journalRows, rows}
-use Rattle.bounds.proofs.Parts.{good-right, head-right, first-unit-right, last-unit-right, offer-right, commitment-right, mark-right, energy-right, first-item-right, last-item-right, journal-right}
+use Rattle.bounds.specs.Rows.{Row, right, allRight, headRows, unitRows, offerRows, commitmentRows, storedRows, rows}
+use Rattle.bounds.proofs.Parts.{head-right, units-right, first-offer-right, last-offer-right, commitments-right, stored-right, journal-right}
 
 module _ (free : Free) where
   -- rows that are right, followed by rows that are right
@@ -19,4 +19,9 @@ module _ (free : Free) where
 
   pub rows-right : allRight free rows ≡ true
   unfolding rows
-  rows-right = both _ journalRows (both _ (amountRows 5) (both _ (amountRows 1) (both _ energyRows (both _ markRows (both _ commitmentRows (both _ offerRows (both _ (unitRows 8) (both _ (unitRows 1) (both _ headRows (good-right free) (head-right free)) (first-unit-right free)) (last-unit-right free)) (offer-right free)) (commitment-right free)) (mark-right free)) (energy-right free)) (first-item-right free)) (last-item-right free)) (journal-right free)
+  rows-right =
+      both headRows _ (head-right free)
+      (both unitRows _ (units-right free)
+      (both (offerRows 1 1) _ (first-offer-right free)
+      (both (offerRows 24 8) _ (last-offer-right free)
+      (both commitmentRows _ (commitments-right free) (both storedRows _ (stored-right free) (journal-right free))))))

@@ -1,2 +1,5 @@
+pub mod Changed
+pub mod Anywhere
+pub mod Good
 pub mod Parts
 pub mod Bounds

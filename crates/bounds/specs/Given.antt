@@ -5,6 +5,7 @@ use mathlib.Core.List.{List, [], _∷_}
 use Prim.Native.Nat.{ℕ, _-_}
 use lib.IntN.{ℤ, pos, negsuc}
 use lib.ListN.{length, take, set, replicate}
+use Rattle.finite.specs.Finite.{tabulate}
 use Rattle.energy.specs.declared.GrossKwh.{GrossKwh}
 use Rattle.energy.specs.declared.HubKwh.{HubKwh}
 use Rattle.energy.specs.declared.HubGrains.{HubGrains}
@@ -32,8 +33,8 @@ refusal g =
     let posted = postedHold (take (g .count) (g .journal)) in
     cond (sheetHolds (g .sheet)) (cond (bookHolds (g .sheet) (g .book) && (countHolds (g .count) (length (g .journal)) && posted)) 0 12) 9
 
--- what neither looks at: the sheet's values of units outside the plant, by unit, an offer's places past its steps, and the journal's
--- places past the count
+-- what neither looks at: the sheet's values of units outside the plant, by unit; an offer's places past its steps; and, by the place in
+-- the journal, what stands past the count, and all but the amount of what is counted
 pub record Free : Type 0 where
   pub outside : ℕ → UnitSheet
   pub quantities : List HubKwh
@@ -226,16 +227,21 @@ amount hour unit item free z =
     withBook free
     (bookOf noCommitments openHours noEnergies (set noAmounts (entry hour unit) (record { item = set noItems (item - 1) z })))
 
--- the count, over the good journal, and over a list of so many places
-abbrev pub count : Free → ℕ → Given
-count free n = given (goodSheet free) goodBook n (goodJournal free)
-
+-- the count, over a list of so many places
 abbrev pub countIn : ℕ → Free → ℕ → Given
 countIn places free n = given (goodSheet free) goodBook n (replicate places (postingOf free 1 (pos 0)))
 
--- the amounts posted, the count being 3
+-- the amounts posted first and last, the count being 3
 abbrev pub firstPosted : Free → ℤ → Given
 firstPosted free z = given (goodSheet free) goodBook 3 (journalOf free z (pos 0) (pos 0))
 
 abbrev pub lastPosted : Free → ℤ → Given
 lastPosted free z = given (goodSheet free) goodBook 3 (journalOf free (pos 0) (pos 0) z)
+
+-- a list of which nothing is counted
+abbrev pub uncounted : Free → Given
+uncounted free = given (goodSheet free) goodBook 0 (tabulate 7 (free .contents))
+
+-- a sheet of month 13 and a count above the list
+abbrev pub bothBroken : Free → Given
+bothBroken free = given (sheetOf 13 10 100 440000 100000 goodCpf goodUnits (plant free)) goodBook 8 (goodJournal free)

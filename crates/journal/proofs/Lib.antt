@@ -4,3 +4,5 @@ pub mod Posted
 pub mod Turned
 pub mod Typed
 pub mod Listed
+pub mod Params
+pub mod Thin

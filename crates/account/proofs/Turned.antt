@@ -1,0 +1,68 @@
+-- A turn from its parts: what the call comes to, and the day after it. Each turn leaves fewer calls, so the turns end, and those from a day on
+-- are those from the day after it.
+-- Assumes nothing.
+use mathlib.Core.Path.{_≡_, refl, sym, ap, ap₂, _∙_}
+use mathlib.Core.Logic.{_⊎_, inl, inr, ⊎-elim}
+use mathlib.Core.Bool.{cond}
+use mathlib.Core.List.{List}
+use Prim.Native.Nat.{ℕ, zero, suc, _-_, _<_}
+use native.Mathlib.Omega.{arith}
+use borrow.Author.Tests.{ne-eqb}
+use lib.Dec.{eqb}
+use Rattle.sheet.specs.declared.Sheet.{Sheet}
+use Rattle.state.specs.declared.Book.{Book}
+use Rattle.postings.specs.declared.Posting.{Posting}
+use Rattle.book.specs.declared.Answer.{Answer}
+use Rattle.book.specs.declared.Answer.the-variants.{Accepted, Posted, Refused}
+use Rattle.book.specs.declared.Outcome.{Outcome}
+use Rattle.journal.specs.Journal.{Performed}
+use Rattle.account.specs.declared.Next.{Next}
+use Rattle.account.specs.declared.Next.the-variants.{Ends, Bad, Asks}
+use Rattle.account.specs.declared.Day.{Day}
+use Rattle.account.specs.Day.{nextAt, dayWith, answeredBy, dayAfter, Running, performedIn, turned, ranTo, ranOut}
+
+pub turned-is : (sheet : Sheet) (text : List ℕ) (s : Running) (o : Outcome) (l : List Posting) (d : Day)
+    → _≡_ {A = Performed} (record { outcome = o; list = l }) (performedIn sheet text s) → d ≡ dayAfter text (s .day) o
+    → _≡_ {A = Running} (record { list = l; day = d }) (turned sheet text s)
+unfolding turned
+turned-is sheet text s o l d e f =
+    ap₂ (λ (x : List Posting) (y : Day). record { list = x; day = y }) (ap (λ (p : Performed). p .list) e)
+    (f ∙ ap (λ (p : Performed). dayAfter text (s .day) (p .outcome)) e)
+
+-- how many calls are left falls by one, or to 0
+left-with : (left count : ℕ) (b : Book) (n : Next) → (dayWith left count b n .left ≡ 0) ⊎ (dayWith left count b n .left ≡ left - 1)
+left-with left count b Ends = inl refl
+left-with left count b (Bad k) = inl refl
+left-with left count b (Asks a after) = inr refl
+
+left-by : (text : List ℕ) (d : Day) (o : Outcome) (a : Answer) → (answeredBy text d o a .left ≡ 0) ⊎ (answeredBy text d o a .left ≡ d .left - 1)
+left-by text d o Accepted = left-with (d .left) (o .count) (o .book) (nextAt text (d .after))
+left-by text d o (Posted n) = left-with (d .left) (o .count) (o .book) (nextAt text (o .place))
+left-by text d o (Refused r) = inl refl
+
+pub left-next : (sheet : Sheet) (text : List ℕ) (s : Running) → (turned sheet text s .day .left ≡ 0) ⊎ (turned sheet text s .day .left ≡ s .day .left - 1)
+unfolding turned dayAfter
+left-next sheet text s = let o = performedIn sheet text s .outcome in left-by text (s .day) o (o .answer)
+
+pub left-less : (sheet : Sheet) (text : List ℕ) (s : Running) (k : ℕ) → s .day .left ≡ suc k → turned sheet text s .day .left < suc k
+left-less sheet text s k e = ⊎-elim (λ z. omega arith) (λ z. omega arith) (left-next sheet text s)
+
+-- the turns from a day on are those from the day after it
+after-turn : (sheet : Sheet) (text : List ℕ) (t : Running) (k m : ℕ) → (m ≡ 0) ⊎ (m ≡ k) → ranTo sheet text m t ≡ cond (eqb m 0) t (ranTo sheet text k t)
+unfolding ranTo
+after-turn sheet text t k zero h = refl
+after-turn sheet text t k (suc m) (inl z) = absurd (omega arith)
+after-turn sheet text t k (suc m) (inr z) =
+    ap (λ (n : ℕ). ranTo sheet text n t) z ∙ sym (simp (ne-eqb (suc m) 0 (λ q. omega arith)))
+
+pub ran-next : (sheet : Sheet) (text : List ℕ) (s : Running) (k : ℕ) → s .day .left ≡ suc k → ranOut sheet text (turned sheet text s) ≡ ranOut sheet text s
+unfolding ranTo
+ran-next sheet text s k e =
+    let t = turned sheet text s in
+    after-turn sheet text t k (t .day .left) (⊎-elim inl (λ z. let m : t .day .left ≡ k = omega (arith, z, e) in inr m) (left-next sheet text s))
+    ∙ sym (ap (λ (n : ℕ). ranTo sheet text n s) e)
+
+-- at the end no turn is left
+pub ran-end : (sheet : Sheet) (text : List ℕ) (s : Running) → s .day .left ≡ 0 → ranOut sheet text s ≡ s
+unfolding ranTo
+ran-end sheet text s e = ap (λ (n : ℕ). ranTo sheet text n s) e

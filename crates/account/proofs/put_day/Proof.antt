@@ -1,0 +1,39 @@
+-- By whether there was a refusal.
+-- Assumes nothing.
+use native.Mathlib.Omega.{arith}
+use borrow.Author.Tests.{eq-eqb, ne-eqb}
+use Rattle.account.specs.Statement.{dayLines}
+use borrow.Author.Needs.{needs}
+use Rattle.account.proofs.put_day.Statement.{statement}
+use Rattle.account.proofs.put_day.Tie as tie
+
+put-settled-requires : tie.Need-put-settled-requires
+put-settled-requires c κs = search needs
+
+same-length : tie.Need-same-length
+same-length c = search needs
+
+returns : tie.Need-returns
+unfolding dayLines
+returns c = (simp (eq-eqb _ _ (c .before .before .before .before .if1 .taken)) (c .before .before .put-settled .ensures .0), omega (arith, c .before .before .put-settled .ensures .1))
+
+put-refusal-requires : tie.Need-put-refusal-requires
+put-refusal-requires c κs = search needs
+
+same-length-2 : tie.Need-same-length-2
+same-length-2 c = search needs
+
+returns-2 : tie.Need-returns-2
+unfolding dayLines
+returns-2 c = (simp (ne-eqb _ _ (c .before .before .before .before .if1 .left)) (c .before .before .put-refusal .ensures .0), omega (arith, c .before .before .put-refusal .ensures .1))
+
+pub put-day-spec : {M : Type 1} → statement M
+put-day-spec =
+    tie.close
+    (tie.spec
+    put-settled-requires
+    same-length
+    returns
+    put-refusal-requires
+    same-length-2
+    returns-2)

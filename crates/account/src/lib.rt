@@ -1,0 +1,259 @@
+// The day's account: from the bytes of day.txt to the bytes printed. The sheet is read, then takes and hour records are carried out as they
+// come, over a journal of 2,000 places.
+ghost use mathlib.Core.Path.{_≡_};
+ghost use Prim.Native.Nat.{suc, _-_, _≤_};
+ghost use lib.ListN.{length, replicate};
+ghost use Rattle.postings.specs.Journal.{noPosting};
+ghost use Rattle.state.specs.Book.{emptyBook};
+ghost use Rattle.book.specs.Requests.{noneAsked};
+ghost use Rattle.decimal.specs.Output.{output, written, filled};
+ghost use Rattle.listing.specs.Listing.{mostBytes};
+ghost use Rattle.account.specs.Day.{takeRow, takeOf, settleOf, nextAt, dayEnded, dayAt, dayAfter, Running, turned, ranOut, dayFrom};
+ghost use Rattle.account.specs.Statement.{dayLines, statementOf};
+use book::Answer;
+use book::Asked;
+use book::Outcome;
+use lines::ReadAnswer;
+use postings::Posting;
+use sheet::Sheet;
+use state::Book;
+use text::Line;
+use text::Row;
+
+// What comes at a place of the text: its end, a line that is refused with a number, or a call with the place after its line.
+pub enum Next {
+    Ends,
+    Bad(u64),
+    Asks(Asked, usize),
+}
+
+// The day so far. While calls are left, one is asked for, and `after` is the place after its line; otherwise the day has ended, and the
+// refusal is its number or 0.
+pub struct Day {
+    pub left: usize,
+    pub count: u64,
+    pub book: Book,
+    pub asked: Asked,
+    pub after: usize,
+    pub refusal: u64,
+}
+
+fn take_row() -> Row
+    ensures { λ r. ⌜ r ≡ takeRow ⌝ }
+{
+    Row {
+        key: *b"take======",
+        word: *b"==========",
+        blank: 0,
+        order: 0,
+        parts: 3,
+        most: 3,
+        low: [0, 0, 0, 0],
+        high: [999999999, 999999999, 999999999, 0],
+    }
+}
+
+fn no_call() -> Asked
+    ensures { λ r. ⌜ r ≡ noneAsked ⌝ }
+{
+    Asked {
+        kind: 0,
+        hour: 0,
+        unit: 0,
+        to: 0,
+        kwh: 0,
+        begin: 0,
+        end: 0,
+        start: 0,
+    }
+}
+
+// The take of a line's numbers.
+fn take_of(line: Line, after: usize) -> Next
+    ensures { λ r. ⌜ r ≡ takeOf line after ⌝ }
+{
+    if line.code == 0 {
+        let number = line.number;
+        return Next::Asks(
+            Asked {
+                kind: 1,
+                hour: number[0],
+                unit: number[1],
+                to: 0,
+                kwh: number[2],
+                begin: 0,
+                end: 0,
+                start: 0,
+            },
+            after,
+        );
+    }
+    Next::Bad(line.code)
+}
+
+// The settle of the record that begins at a place.
+fn settle_at(text: &[u8], at: usize) -> Next
+    ensures { λ r. ⌜ r ≡ settleOf (now (text .entry)) at ⌝ }
+{
+    Next::Asks(
+        Asked {
+            kind: 4,
+            hour: 0,
+            unit: 0,
+            to: 0,
+            kwh: 0,
+            begin: 0,
+            end: text.len() as u64,
+            start: at as u64,
+        },
+        at,
+    )
+}
+
+// What comes at a place of the text.
+fn next_at(text: &[u8], at: usize) -> Next
+    ensures { λ r. ⌜ r ≡ nextAt (now (text .entry)) at ⌝ }
+{
+    if text.len() <= at {
+        return Next::Ends;
+    }
+    let e = text::find(text, at, b'\n', b'\n');
+    if text.len() <= e {
+        return Next::Bad(4);
+    }
+    let line = &text[at..e];
+    if text::key_is(line, *b"take======") {
+        let l = text::read_value(text::value_of(line), take_row());
+        return take_of(l, e + 1);
+    }
+    if text::key_is(line, *b"hour======") {
+        return settle_at(text, at);
+    }
+    Next::Bad(1)
+}
+
+fn day_ended(count: u64, book: Book, refusal: u64) -> Day
+    ensures { λ r. ⌜ r ≡ dayEnded count book refusal ⌝ }
+{
+    Day {
+        left: 0,
+        count: count,
+        book: book,
+        asked: no_call(),
+        after: 0,
+        refusal: refusal,
+    }
+}
+
+fn one_less(n: usize) -> usize
+    ensures { λ r. ⌜ r ≡ n - 1 ⌝ }
+{
+    if n == 0 {
+        return 0;
+    }
+    n - 1
+}
+
+// The day with what comes at a place.
+fn day_at(text: &[u8], at: usize, left: usize, count: u64, book: Book) -> Day
+    ensures { λ r. ⌜ r ≡ dayAt (now (text .entry)) at left count book ⌝ }
+{
+    let next = next_at(text, at);
+    match next {
+        Next::Ends => day_ended(count, book, 0),
+        Next::Bad(number) => day_ended(count, book, number),
+        Next::Asks(asked, after) => Day {
+            left: one_less(left),
+            count: count,
+            book: book,
+            asked: asked,
+            after: after,
+            refusal: 0,
+        },
+    }
+}
+
+// The day after a call.
+fn day_after(text: &[u8], day: Day, outcome: Outcome) -> Day
+    ensures { λ r. ⌜ r ≡ dayAfter (now (text .entry)) day outcome ⌝ }
+{
+    let answer = outcome.answer;
+    let book = outcome.book;
+    match answer {
+        Answer::Accepted => day_at(text, day.after, day.left, outcome.count, book),
+        Answer::Posted(_) => day_at(text, outcome.place as usize, day.left, outcome.count, book),
+        Answer::Refused(refusal) => {
+            day_ended(outcome.count, book, book::refusal_number(refusal))
+        }
+    }
+}
+
+// The day's first call, on the empty book.
+fn day_begun(text: &[u8], at: usize) -> Day
+    ensures { λ r. ⌜ r ≡ dayAt (now (text .entry)) at (suc (length (now (text .entry)))) 0 emptyBook ⌝ }
+{
+    day_at(text, at, text.len() + 1, 0, state::empty_book())
+}
+
+// One call of the day.
+fn turn(list: &mut [Posting], sheet: Sheet, text: &[u8], day: Day) -> Day
+    ensures { λ r. ⌜ record { list = now (list .exit); day = r } ≡ turned sheet (now (text .entry)) (record { list = now (list .entry); day = day }) ⌝ }
+{
+    let outcome = journal::call(list, day.count, sheet, day.book, text, day.asked);
+    day_after(text, day, outcome)
+}
+
+// The day's calls, over a lent journal.
+fn carry_out(list: &mut [Posting], sheet: Sheet, text: &[u8], at: usize) -> Day
+    ensures { λ r. ⌜ record { list = now (list .exit); day = r } ≡ ranOut sheet (now (text .entry)) (record { list = now (list .entry); day = dayAt (now (text .entry)) at (suc (length (now (text .entry)))) 0 emptyBook }) ⌝ }
+{
+    let mut day = day_begun(text, at);
+    while 0 < day.left {
+        day = turn(list, sheet, text, day);
+    }
+    day
+}
+
+// The day behind its sheet, over a journal of 2,000 places.
+pub fn day_of(sheet: Sheet, text: &[u8], at: usize) -> Day
+    ensures { λ r. ⌜ r ≡ dayFrom sheet (now (text .entry)) at ⌝ }
+{
+    let mut list = [Posting {
+        hour: 0,
+        unit: 0,
+        item: 0,
+        amount: 0,
+    }; 2000];
+    carry_out(&mut list, sheet, text, at)
+}
+
+// What is printed of a day.
+fn put_day(out: &mut [u8], units: u64, day: Day) -> usize
+    ensures { λ r. ⌜ output (now (out .exit)) r ≡ written (output (now (out .entry)) 0) (dayLines units day) ⌝ }
+    ensures { λ r. ⌜ r ≤ mostBytes ⌝ }
+{
+    let book = day.book;
+    if day.refusal == 0 {
+        return listing::put_settled(out, 0, units, book);
+    }
+    listing::put_refusal(out, 0, day.refusal)
+}
+
+// The statement of a day's text, written from the start of the buffer on as far as it has room; gives how many bytes are written. A buffer
+// of 32,256 bytes has room for every statement.
+pub fn statement_of(text: &[u8], out: &mut [u8]) -> usize
+    ensures { λ r. ⌜ output (now (out .exit)) r ≡ filled (now (out .entry)) (statementOf (now (text .entry))) ⌝ }
+    ensures { λ r. ⌜ r ≤ mostBytes ⌝ }
+{
+    let read = sheet::read_sheet(text, 0);
+    let answer = read.answer;
+    let sheet = read.sheet;
+    match answer {
+        ReadAnswer::Read(place) => {
+            put_day(out, sheet.units, day_of(sheet, text, place as usize))
+        }
+        ReadAnswer::Refused(refusal) => {
+            listing::put_refusal(out, 0, lines::text_number(refusal))
+        }
+    }
+}

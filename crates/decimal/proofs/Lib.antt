@@ -1,0 +1,4 @@
+pub mod Laws
+pub mod Signs
+pub mod Filled
+pub mod Lengths

@@ -1,0 +1,124 @@
+// The lines of the statement, written into a lent buffer: settled hours, or a refusal.
+ghost use mathlib.Core.Path.{_≡_};
+ghost use Prim.Native.Nat.{_+_, _*_, _≤_, _<_};
+ghost use Rattle.state.specs.Sizes.{hours, places, items};
+ghost use Rattle.decimal.specs.Output.{output, written};
+ghost use Rattle.listing.specs.Listing.{mostField, mostLine, mostHour, mostBytes, joined, numberField, itemField, unitLine, placeLine, hourLines, settledLines, refusalLine};
+use energy::HubGrains;
+use settlement::Amounts;
+use state::Book;
+
+// A number behind a space.
+fn put_number_field(out: &mut [u8], at: usize, n: u64) -> usize
+    ensures { λ r. ⌜ output (now (out .exit)) r ≡ written (output (now (out .entry)) at) (numberField n) ⌝ }
+    ensures { λ r. ⌜ r ≤ at + mostField ⌝ }
+{
+    let place = decimal::put_byte(out, at, b' ');
+    decimal::put_number(out, place, n)
+}
+
+// Item i, from 0, behind a space.
+fn put_item_field(out: &mut [u8], at: usize, amounts: Amounts, i: usize) -> usize
+    requires { ⌜ i < items ⌝ }
+    ensures { λ r. ⌜ output (now (out .exit)) r ≡ written (output (now (out .entry)) at) (itemField amounts i) ⌝ }
+    ensures { λ r. ⌜ r ≤ at + mostField ⌝ }
+{
+    let place = decimal::put_byte(out, at, b' ');
+    decimal::put_signed(out, place, amounts.item[i])
+}
+
+fn put_items(out: &mut [u8], at: usize, amounts: Amounts) -> usize
+    ensures { λ r. ⌜ output (now (out .exit)) r ≡ written (output (now (out .entry)) at) (joined items (itemField amounts)) ⌝ }
+    ensures { λ r. ⌜ r ≤ at + items * mostField ⌝ }
+{
+    let mut place = at;
+    let mut i: usize = 0;
+    while i < 5 {
+        place = put_item_field(out, place, amounts, i);
+        i += 1;
+    }
+    place
+}
+
+// The line of a unit in an hour.
+pub fn put_unit_line(
+    out: &mut [u8],
+    at: usize,
+    hour: u64,
+    unit: u64,
+    grains: HubGrains,
+    amounts: Amounts,
+) -> usize
+    ensures { λ r. ⌜ output (now (out .exit)) r ≡ written (output (now (out .entry)) at) (unitLine hour unit (grains .0) amounts) ⌝ }
+    ensures { λ r. ⌜ r ≤ at + mostLine ⌝ }
+{
+    let a = decimal::put_number(out, at, hour);
+    let b = put_number_field(out, a, unit);
+    let c = put_number_field(out, b, grains.0);
+    let d = put_items(out, c, amounts);
+    decimal::put_byte(out, d, b'\n')
+}
+
+// The line of the unit of place k in hour h, both from 0, where that unit is in the plant.
+fn put_place(out: &mut [u8], at: usize, units: u64, book: Book, h: usize, k: usize) -> usize
+    requires { ⌜ (h < hours) × (k < places) ⌝ }
+    ensures { λ r. ⌜ output (now (out .exit)) r ≡ written (output (now (out .entry)) at) (placeLine units book h k) ⌝ }
+    ensures { λ r. ⌜ r ≤ at + mostLine ⌝ }
+{
+    if units::member_at(units, k) {
+        let grains = state::energy_at(book, h, k);
+        let amounts = state::amounts_at(book, h, k);
+        return put_unit_line(out, at, h as u64 + 1, k as u64 + 1, grains, amounts);
+    }
+    at
+}
+
+fn put_places(out: &mut [u8], at: usize, units: u64, book: Book, h: usize) -> usize
+    requires { ⌜ h < hours ⌝ }
+    ensures { λ r. ⌜ output (now (out .exit)) r ≡ written (output (now (out .entry)) at) (joined places (placeLine units book h)) ⌝ }
+    ensures { λ r. ⌜ r ≤ at + mostHour ⌝ }
+{
+    let mut place = at;
+    let mut k: usize = 0;
+    while k < 8 {
+        place = put_place(out, place, units, book, h, k);
+        k += 1;
+    }
+    place
+}
+
+// The lines of hour h, from 0, where it stands settled.
+fn put_hour(out: &mut [u8], at: usize, units: u64, book: Book, h: usize) -> usize
+    requires { ⌜ h < hours ⌝ }
+    ensures { λ r. ⌜ output (now (out .exit)) r ≡ written (output (now (out .entry)) at) (hourLines units book h) ⌝ }
+    ensures { λ r. ⌜ r ≤ at + mostHour ⌝ }
+{
+    if state::mark_at(book, h) == 1 {
+        return put_places(out, at, units, book, h);
+    }
+    at
+}
+
+// The settled hours.
+pub fn put_settled(out: &mut [u8], at: usize, units: u64, book: Book) -> usize
+    ensures { λ r. ⌜ output (now (out .exit)) r ≡ written (output (now (out .entry)) at) (settledLines units book) ⌝ }
+    ensures { λ r. ⌜ r ≤ at + mostBytes ⌝ }
+{
+    let mut place = at;
+    let mut h: usize = 0;
+    while h < 24 {
+        place = put_hour(out, place, units, book, h);
+        h += 1;
+    }
+    place
+}
+
+// The line of a refusal.
+pub fn put_refusal(out: &mut [u8], at: usize, number: u64) -> usize
+    ensures { λ r. ⌜ output (now (out .exit)) r ≡ written (output (now (out .entry)) at) (refusalLine number) ⌝ }
+    ensures { λ r. ⌜ r ≤ at + mostLine ⌝ }
+{
+    let a = decimal::put_bytes(out, at, b"refused=");
+    let b = decimal::put_number(out, a, number);
+    decimal::put_byte(out, b, b'\n')
+}
