@@ -13,6 +13,8 @@ pub mod generate;
 pub mod inputs;
 pub mod items;
 pub mod ledger;
+#[cfg(feature = "product")]
+pub mod product;
 pub mod random;
 pub mod record;
 pub mod replay;

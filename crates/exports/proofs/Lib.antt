@@ -1,0 +1,4 @@
+pub mod Put
+pub mod Places
+pub mod Front
+pub mod Called
