@@ -4,12 +4,11 @@ use Prim.Native.Nat.{ℕ, zero, suc, _+_, _*_, _/_, min}
 use mathlib.Core.Bool.{cond}
 use mathlib.Core.List.{List}
 use lib.Dec.{ltb}
-use lib.ListN.{length, getD, set, replicate}
+use lib.ListN.{length, getD, set}
 use Rattle.finite.specs.Finite.{tabulate}
 use Rattle.sheet.specs.declared.Sheet.{Sheet}
 use Rattle.state.specs.Book.{emptyBook}
 use Rattle.postings.specs.declared.Posting.{Posting}
-use Rattle.postings.specs.Journal.{noPosting}
 use Rattle.book.specs.declared.Outcome.{Outcome}
 use Rattle.book.specs.Ledger.{Reply}
 use Rattle.book.specs.Numbers.{numberOf, lineOf, postedOf}
@@ -69,10 +68,3 @@ turned sheet calls text s i =
 unfoldable pub ranAll : Sheet → (calls text : List ℕ) → Running → ℕ → Running
 ranAll sheet calls text s zero = s
 ranAll sheet calls text s (suc k) = turned sheet calls text (ranAll sheet calls text s k) k
-
--- 01, Program and marked figures: "over a list of 2,000 places"
-unfoldable pub ownStart : List ℕ → Running
-ownStart answers = record { list = replicate 2000 noPosting; answers = answers; ran = startRan }
-
-abbrev pub dayOf : Sheet → (calls text answers : List ℕ) → Running
-dayOf sheet calls text answers = ranAll sheet calls text (ownStart answers) (turnsOf (length calls) (length answers))

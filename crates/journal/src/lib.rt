@@ -9,7 +9,7 @@ ghost use Rattle.book.specs.Total.{totalOn};
 ghost use Rattle.book.specs.Requests.{takeRequest, releaseRequest, moveRequest, settleRequest, restateRequest, voidRequest, callFor, callsIn};
 ghost use Rattle.book.specs.Demand.{Demand};
 ghost use Rattle.journal.specs.Journal.{scannedIn, posted, Performed, performed};
-ghost use Rattle.journal.specs.Run.{Running, startRan, turnsOf, handedOn, answered, repliesIn, turned, ranAll, dayOf};
+ghost use Rattle.journal.specs.Run.{Running, startRan, turnsOf, handedOn, answered, repliesIn, turned, ranAll};
 use book::Asked;
 use book::Outcome;
 use book::Request;
@@ -251,17 +251,4 @@ pub fn run(
         i += 1;
     }
     ran
-}
-
-// A list of calls over a list of 2,000 places of its own.
-pub fn day(sheet: Sheet, calls: &[u64], text: &[u8], answers: &mut [u64]) -> Ran
-    ensures { λ r. ⌜ (r ≡ dayOf sheet (now (calls .entry)) (now (text .entry)) (now (answers .entry)) .ran) × (now (answers .exit) ≡ dayOf sheet (now (calls .entry)) (now (text .entry)) (now (answers .entry)) .answers) ⌝ }
-{
-    let mut list = [Posting {
-        hour: 0,
-        unit: 0,
-        item: 0,
-        amount: 0,
-    }; 2000];
-    run(&mut list, sheet, calls, text, answers)
 }
