@@ -20,7 +20,8 @@ use Rattle.lines.proofs.Reading.{start-within}
 use Rattle.decimal.specs.Output.{Output, output, withByte, written}
 use Rattle.decimal.proofs.Laws.{written-append}
 use Rattle.entries.specs.Entries.{sheetRefused}
-use Rattle.daybook.specs.Course.{Running, turned, toldTo, ranAll, ownList, started}
+use Rattle.daybook.specs.Turns.{ownList}
+use Rattle.daybook.specs.Running.{Running, turned, toldTo, ranAll, started}
 use Rattle.daybook.specs.Replay.{Course, called, printed, stepped, steps, begun, callLines, replayedBy, replayed}
 
 -- the code's state where a course's bytes are written into a buffer from its first place on

@@ -13,7 +13,7 @@ use Rattle.journal.specs.Journal.{Performed}
 use Rattle.journal.proofs.Posted.{length-performed}
 use Rattle.decimal.proofs.Laws.{length-written}
 use Rattle.daybook.specs.declared.Stand.{Stand}
-use Rattle.daybook.specs.Course.{Running, Told, askedBy, calledBy, toldTo, toldBy, leftBy, turned, ranAll}
+use Rattle.daybook.specs.Running.{Running, Told, askedBy, calledBy, toldTo, toldBy, leftBy, turned, ranAll}
 
 module _ (sheet : Sheet) (text : List ℕ) (r : Running) where
   pub turned-is : (o : Outcome) (l l₂ : List Posting) (t : TotalAnswer) (out : List ℕ) (s : Stand)

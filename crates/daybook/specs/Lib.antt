@@ -1,2 +1,3 @@
-pub mod Course
+pub mod Turns
+pub mod Running
 pub mod Replay

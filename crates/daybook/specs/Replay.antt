@@ -20,7 +20,7 @@ use Rattle.asks.specs.declared.Asking.{Asking}
 use Rattle.asks.specs.declared.Extent.{Extent}
 use Rattle.asks.specs.Extent.{extentOf}
 use Rattle.entries.specs.Entries.{sheetRefused, stopLine}
-use Rattle.daybook.specs.Course.{askedNext, listedAfter, turnText, totalAfter, ownList}
+use Rattle.daybook.specs.Turns.{askedNext, listedAfter, turnText, totalAfter, ownList}
 
 -- the journal's list, the count and the book, the place in the text, the totals listed, and the bytes printed
 pub record Course : Type 0 where

@@ -1,6 +1,6 @@
 -- By whether the place is within the text.
 -- Assumes nothing.
-use Rattle.daybook.specs.Course.{askedNext}
+use Rattle.daybook.specs.Turns.{askedNext}
 use borrow.Author.Tests.{lt-ltb, le-ltb}
 use borrow.Author.Needs.{needs}
 use Rattle.daybook.proofs.asked_next.Statement.{statement}

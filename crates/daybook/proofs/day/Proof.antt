@@ -48,7 +48,8 @@ use Rattle.postings.specs.declared.Posting.{Posting}
 use Rattle.sheet.specs.declared.Sheet.{Sheet}
 use Rattle.daybook.specs.declared.Stand.{Stand}
 use Rattle.postings.specs.Journal.{noPosting as past}
-use Rattle.daybook.specs.Course.{Running, ranAll, ownList}
+use Rattle.daybook.specs.Turns.{ownList}
+use Rattle.daybook.specs.Running.{Running, ranAll}
 use Rattle.journal.proofs.OwnList.{past-is, array-is, into-cells, out-of-cells}
 use Rattle.journal.proofs.Typed.{typed-sheet}
 use Rattle.daybook.proofs.Typed.{typed-stand}

@@ -7,7 +7,8 @@ use Rattle.sheet.specs.declared.Sheet.{Sheet}
 use Rattle.asks.specs.Extent.{extentOf}
 use Rattle.asks.specs.declared.Extent.{Extent}
 use Rattle.daybook.specs.Replay.{turnsOf, callLines, steps, begun}
-use Rattle.daybook.specs.Course.{Running, ranAll, ownList, started as startedAt}
+use Rattle.daybook.specs.Turns.{ownList}
+use Rattle.daybook.specs.Running.{Running, ranAll, started as startedAt}
 use Rattle.decimal.proofs.Laws.{then, written-none}
 use Rattle.decimal.specs.Output.{output, written}
 use borrow.Author.Tests.{eq-eqb, ne-eqb}

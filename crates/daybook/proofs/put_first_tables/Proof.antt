@@ -1,6 +1,6 @@
 -- The tables before the first total, nothing before another.
 -- Assumes nothing.
-use Rattle.daybook.specs.Course.{firstTables}
+use Rattle.daybook.specs.Turns.{firstTables}
 use Rattle.decimal.proofs.Laws.{written-none}
 use Rattle.decimal.specs.Output.{written}
 use borrow.Author.Tests.{eq-eqb, ne-eqb}

@@ -1,7 +1,7 @@
 -- By whether the place is within the text.
 -- Assumes nothing.
 use Rattle.entries.specs.Tables.{totalLine}
-use Rattle.daybook.specs.Course.{firstTables, turnText}
+use Rattle.daybook.specs.Turns.{firstTables, turnText}
 use Rattle.decimal.proofs.Laws.{then}
 use Rattle.decimal.specs.Output.{output}
 use borrow.Author.Tests.{lt-ltb, le-ltb}

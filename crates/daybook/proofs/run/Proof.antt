@@ -51,7 +51,7 @@ use denote.Signature.{plain}
 use Rattle.postings.specs.declared.Posting.{Posting}
 use Rattle.sheet.specs.declared.Sheet.{Sheet}
 use Rattle.daybook.specs.declared.Stand.{Stand}
-use Rattle.daybook.specs.Course.{Running, ranAll}
+use Rattle.daybook.specs.Running.{Running, ranAll}
 use Rattle.journal.proofs.Again.{LentAgain, lends-again, comes-back}
 use Rattle.journal.proofs.Typed.{typed-sheet}
 use Rattle.daybook.proofs.Turned.{length-list, length-out}

@@ -1,6 +1,6 @@
 -- What is printed, and how the run stands behind it.
 -- Assumes nothing.
-use Rattle.daybook.specs.Course.{toldTo, Told}
+use Rattle.daybook.specs.Running.{toldTo, Told}
 use Rattle.decimal.specs.Output.{Output}
 use Prim.Native.Nat.{ℕ}
 use mathlib.Core.Path.{ap₂}

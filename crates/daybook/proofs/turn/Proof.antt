@@ -50,7 +50,8 @@ use Rattle.asks.specs.declared.Asking.{Asking}
 use Rattle.daybook.specs.declared.Stand.{Stand}
 use Rattle.journal.specs.Journal.{Performed}
 use Rattle.book.specs.Total.{totalOn}
-use Rattle.daybook.specs.Course.{Running, Told, askedNext, calledBy, toldTo, turned}
+use Rattle.daybook.specs.Turns.{askedNext}
+use Rattle.daybook.specs.Running.{Running, Told, calledBy, toldTo, turned}
 use Rattle.journal.proofs.Again.{LentAgain, lends-again, comes-back}
 use Rattle.journal.proofs.Typed.{typed-sheet, typed-outcome, typed-totalanswer}
 use Rattle.daybook.proofs.Turned.{turned-is}
