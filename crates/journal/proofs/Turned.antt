@@ -1,4 +1,5 @@
 -- A call of a list from its parts; and what calls keep: the lengths of the list and of the answers.
+-- Assumes nothing.
 use mathlib.Core.Path.{_≡_, refl, sym, _∙_, ap, ap₂}
 use mathlib.Core.Bool.{Bool, true, false, cond}
 use mathlib.Core.List.{List}

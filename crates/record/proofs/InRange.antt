@@ -1,4 +1,5 @@
 -- What the values of a record that was read keep to.
+-- Assumes nothing.
 use mathlib.Core.Path.{_≡_}
 use mathlib.Core.Bool.{true, false}
 use Prim.Native.Nat.{ℕ, _≤_, _<_}

@@ -1,4 +1,5 @@
 -- One turn of a search, of a word's comparison and of a number's reading, on the list that is left.
+-- Assumes nothing.
 use mathlib.Core.Path.{_≡_, refl, ap, sym, _∙_}
 use mathlib.Core.Bool.{Bool, true, false, cond}
 use mathlib.Core.List.{List, [], _∷_}

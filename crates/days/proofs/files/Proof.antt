@@ -1,4 +1,5 @@
 -- The arguments are gone through one by one.
+-- Assumes nothing.
 use Prim.Native.Nat.{_-_}
 use borrow.Author.Needs.{needs}
 use Rattle.days.proofs.files.Statement.{statement}

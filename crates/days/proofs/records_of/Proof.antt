@@ -1,4 +1,5 @@
 -- The place rises to the end of the text.
+-- Assumes nothing.
 use Prim.Native.Nat.{_-_}
 use lib.ListN.{length}
 use borrow.Author.Needs.{needs}

@@ -1,4 +1,5 @@
 -- The cursor says what the reading says; each return is a case of the answer.
+-- Assumes nothing.
 use Rattle.lines.specs.Lines.{Reading}
 use Rattle.lines.specs.Refusals.{answerOf, textRefusal}
 use Rattle.lines.specs.declared.ReadAnswer.{ReadAnswer}

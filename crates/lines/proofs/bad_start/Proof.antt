@@ -1,4 +1,5 @@
 -- The two tests in their order.
+-- Assumes nothing.
 use borrow.Author.Tests.{lt-ltb, le-ltb}
 use Rattle.lines.proofs.bad_start.Statement.{statement}
 use Rattle.lines.proofs.bad_start.Tie as tie

@@ -1,4 +1,5 @@
 -- Past the end of the cells both say 0.
+-- Assumes nothing.
 use Prim.Native.Nat.{_*_}
 use mathlib.Core.Path.{sym}
 use lib.ListN.{List·getD-eq-default}

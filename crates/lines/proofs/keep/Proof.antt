@@ -1,4 +1,5 @@
 -- After i turns the first i numbers stand in their cells: a copy of i elements.
+-- Assumes nothing.
 use Rattle.lines.specs.Cells.{withLine}
 use Prim.Native.Nat.{ℕ, _+_, _*_, _-_, _≤_}
 use mathlib.Core.Path.{_≡_, sym, ap, _∙_}

@@ -1,4 +1,5 @@
 -- Each return is a case of the definition: by where the LF is found, by the key, and by the value's own refusal.
+-- Assumes nothing.
 use Rattle.lines.proofs.Reading.{good-line, bad-line, unended, other-key, due-key}
 use Rattle.lines.specs.Lines.{lineAt}
 use Rattle.lines.specs.declared.LineRead.{LineRead}

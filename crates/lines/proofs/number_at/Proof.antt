@@ -1,4 +1,5 @@
 -- A number of a line lies in its cells; past their end both say 0.
+-- Assumes nothing.
 use Prim.Native.Nat.{_+_, _*_}
 use mathlib.Core.Path.{sym, _∙_}
 use native.Mathlib.Omega.{arith}

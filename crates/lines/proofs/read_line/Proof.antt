@@ -1,4 +1,5 @@
 -- The three ways a line can turn out are the three laws of Shown.
+-- Assumes nothing.
 use Rattle.lines.proofs.Shown.{shown-refused, shown-bad, shown-good}
 use Rattle.lines.specs.Lines.{Reading, readLine}
 use Rattle.lines.specs.Cells.{Shows}

@@ -1,4 +1,5 @@
 -- Each return goes by the number that was tested.
+-- Assumes nothing.
 use borrow.Author.Tests.{eq-eqb, ne-eqb}
 use borrow.Author.Needs.{needs}
 use Rattle.lines.proofs.text_refusal.Statement.{statement}

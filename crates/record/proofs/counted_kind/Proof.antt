@@ -1,4 +1,5 @@
 -- Each test is one of the definition: a kind from 2 to 3 is 2 or 3.
+-- Assumes nothing.
 use borrow.Author.Tests.{eq-eqb, ne-eqb}
 use native.Mathlib.Omega.{arith}
 use Rattle.record.proofs.Counted.{other-kind, moved-kind}

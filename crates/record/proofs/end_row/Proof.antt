@@ -1,4 +1,5 @@
 -- The row of the last line.
+-- Assumes nothing.
 use Rattle.record.specs.Rows.{endRow}
 use borrow.Author.Needs.{needs}
 use Rattle.record.proofs.end_row.Statement.{statement}

@@ -1,4 +1,5 @@
 -- The places of the units are what `no_unit` gives.
+-- Assumes nothing.
 use mathlib.Core.Path.{ap}
 use lib.ListN.{replicate}
 use Rattle.record.specs.declared.UnitRecord.{UnitRecord}

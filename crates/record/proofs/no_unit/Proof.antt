@@ -1,4 +1,5 @@
 -- The places of the spans are what `no_span` gives.
+-- Assumes nothing.
 use mathlib.Core.Path.{ap}
 use lib.ListN.{replicate}
 use Rattle.record.specs.declared.Span.{Span}

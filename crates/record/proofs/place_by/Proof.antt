@@ -1,4 +1,5 @@
 -- The unit's block where it is in the plant, else the empty unit.
+-- Assumes nothing.
 use Prim.Native.Nat.{ℕ}
 use mathlib.Core.Path.{ap, sym, _∙_}
 use native.Mathlib.Omega.{arith}

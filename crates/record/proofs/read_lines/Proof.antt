@@ -1,4 +1,5 @@
 -- After i turns the cursor and the cells show i lines; the row of the next is the one due.
+-- Assumes nothing.
 use Prim.Native.Nat.{ℕ, _+_, _*_, _-_, _≤_}
 use mathlib.Core.Path.{_≡_, refl, ap, _∙_, subst}
 use native.Mathlib.Omega.{arith}

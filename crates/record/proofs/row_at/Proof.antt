@@ -1,4 +1,5 @@
 -- The three returns are the three cases of the definition.
+-- Assumes nothing.
 use borrow.Author.Tests.{lt-ltb, le-ltb}
 use Rattle.record.specs.Rows.{rowAt}
 use borrow.Author.Needs.{needs}

@@ -1,4 +1,5 @@
 -- The three returns are the three cases of the definition.
+-- Assumes nothing.
 use mathlib.Core.Path.{sym, _∙_}
 use borrow.Author.Tests.{eq-eqb, ne-eqb}
 use Rattle.record.specs.Hour.{spanBy}

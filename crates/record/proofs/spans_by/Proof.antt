@@ -1,4 +1,5 @@
 -- The two returns are the two cases of the definition.
+-- Assumes nothing.
 use mathlib.Core.Path.{ap, sym, _∙_}
 use borrow.Author.Tests.{eq-eqb, ne-eqb}
 use Prim.Native.Nat.{ℕ, _/_}

@@ -1,4 +1,5 @@
 -- The row, field by field.
+-- Assumes nothing.
 use Rattle.record.specs.Rows.{spansRow}
 use borrow.Author.Needs.{needs}
 use Rattle.record.proofs.spans_row.Statement.{statement}

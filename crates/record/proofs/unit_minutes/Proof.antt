@@ -1,4 +1,5 @@
 -- The total is that of the spans passed; one that exceeds what is left makes it more than 60.
+-- Assumes nothing.
 use Prim.Native.Nat.{ℕ, _+_, _-_, _≤_}
 use mathlib.Core.Path.{_≡_, refl, ap, sym, _∙_}
 use mathlib.Core.Logic.{⊎-elim}

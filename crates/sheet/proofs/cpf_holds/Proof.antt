@@ -1,4 +1,5 @@
 -- The test holds of every hour passed.
+-- Assumes nothing.
 use borrow.Author.Tests.{lt-leb, le-leb}
 use Prim.Native.Nat.{ℕ, _-_, _≤_}
 use mathlib.Core.Path.{_≡_, refl, ap, sym, _∙_}

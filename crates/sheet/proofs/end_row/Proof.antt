@@ -1,4 +1,5 @@
 -- The row as it is written.
+-- Assumes nothing.
 use Rattle.sheet.specs.Rows.{endRow}
 use borrow.Author.Needs.{needs}
 use Rattle.sheet.proofs.end_row.Statement.{statement}

@@ -1,4 +1,5 @@
 -- Each place tested is the row's place in the list; the rest are the hours' factors.
+-- Assumes nothing.
 use mathlib.Core.Path.{_≡_, ap, sym, _∙_}
 use Prim.Native.Nat.{ℕ}
 use mathlib.Core.List.{List}

@@ -1,4 +1,5 @@
 -- Each return is a case of the definition.
+-- Assumes nothing.
 use borrow.Author.Tests.{le-leb, lt-leb}
 use Rattle.sheet.proofs.last_day.Statement.{statement}
 use Rattle.sheet.proofs.last_day.Tie as tie

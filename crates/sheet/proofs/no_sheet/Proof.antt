@@ -1,4 +1,5 @@
 -- The empty unit, eight times.
+-- Assumes nothing.
 use mathlib.Core.Path.{ap}
 use lib.ListN.{replicate}
 use Rattle.sheet.specs.declared.UnitSheet.{UnitSheet}

@@ -1,4 +1,5 @@
 -- The empty offer, 24 times.
+-- Assumes nothing.
 use mathlib.Core.Path.{ap}
 use lib.ListN.{replicate}
 use Rattle.offer.specs.declared.Offer.{Offer}

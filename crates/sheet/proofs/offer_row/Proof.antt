@@ -1,4 +1,5 @@
 -- The row as it is written.
+-- Assumes nothing.
 use mathlib.Core.Path.{refl}
 use Rattle.sheet.specs.Rows.{offerRow}
 use Rattle.sheet.proofs.offer_row.Statement.{statement}

@@ -1,4 +1,5 @@
 -- Each return is a case of the definition.
+-- Assumes nothing.
 use mathlib.Core.Path.{ap, sym, _∙_}
 use native.Mathlib.Omega.{arith}
 use Rattle.lines.specs.Cells.{lineIn}

@@ -1,4 +1,5 @@
 -- Each return is a case of the definition.
+-- Assumes nothing.
 use mathlib.Core.Path.{sym, _∙_}
 use borrow.Author.Needs.{needs}
 use Rattle.sheet.proofs.place_holds.Statement.{statement}

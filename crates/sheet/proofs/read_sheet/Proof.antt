@@ -1,4 +1,5 @@
 -- The part of the text from the start on is read; the cursor and the cells show what the definition reads.
+-- Assumes nothing.
 use mathlib.Core.Path.{_≡_, sym, _∙_, subst}
 use mathlib.Core.List.{List}
 use mathlib.Core.Bool.{false}

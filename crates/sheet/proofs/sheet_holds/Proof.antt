@@ -1,4 +1,5 @@
 -- Each test is a part of the definition.
+-- Assumes nothing.
 use mathlib.Core.Path.{sym, _∙_}
 use borrow.Author.Tests.{lt-leb, le-leb, not-true, not-false}
 use Rattle.sheet.specs.Ranges.{sheetHolds}

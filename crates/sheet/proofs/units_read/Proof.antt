@@ -1,4 +1,5 @@
 -- The ones of a number below 2^64 are at most 64.
+-- Assumes nothing.
 use mathlib.Core.Path.{ap}
 use native.Mathlib.Omega.{arith}
 use lib.Count.{ones, ones-le}
