@@ -1,7 +1,7 @@
 -- The day's text behind its sheet, each call carried out as it comes (01, Program and marked figures).
 use Prim.Native.Nat.{ℕ, zero, suc, _-_}
 use mathlib.Core.Bool.{cond}
-use mathlib.Core.List.{List}
+use mathlib.Core.List.{List, [], _∷_}
 use lib.Dec.{eqb, ltb}
 use lib.ListN.{length, drop, getD, replicate}
 use Rattle.text.specs.Text.{before, has, valuePart, keyIs}
@@ -19,7 +19,8 @@ use Rattle.book.specs.declared.Answer.{Answer}
 use Rattle.book.specs.declared.Answer.the-variants.{Accepted, Posted, Refused}
 use Rattle.book.specs.declared.Outcome.{Outcome}
 use Rattle.book.specs.Numbers.{refusalNumber}
-use Rattle.book.specs.Calls.{requestOf}
+use Rattle.book.specs.Ledger.{Call}
+use Rattle.book.specs.Calls.{State, requestOf}
 use Rattle.book.specs.Requests.{callFor, noneAsked}
 use Rattle.journal.specs.Journal.{Performed, performed}
 use Rattle.account.specs.declared.Next.{Next}
@@ -118,9 +119,24 @@ ranTo s text (suc left) r =
 abbrev pub ranOut : Sheet → List ℕ → Running → Running
 ranOut s text r = ranTo s text (r .day .left) r
 
+-- the calls carried out, in their order
+unfoldable pub callsTo : Sheet → List ℕ → (left : ℕ) → Running → List Call
+callsTo s text zero r = []
+callsTo s text (suc left) r =
+    let t = turned s text r in
+    let further = callsTo s text left t in
+    callFor text (r .day .asked) ∷ cond (eqb (t .day .left) 0) [] further
+
+-- the book, the count and the journal
+abbrev pub stateOf : Running → State
+stateOf r = record { book = r .day .book; count = r .day .count; journal = r .list }
+
 -- "over a list of 2,000 places", on the empty book
 unfoldable pub begun : List ℕ → (at : ℕ) → Running
 begun text at = record { list = replicate 2000 noPosting; day = dayAt text at (suc (length text)) 0 emptyBook }
 
 abbrev pub dayFrom : Sheet → List ℕ → (at : ℕ) → Day
 dayFrom s text at = ranOut s text (begun text at) .day
+
+abbrev pub dayCalls : Sheet → List ℕ → (at : ℕ) → List Call
+dayCalls s text at = callsTo s text (begun text at .day .left) (begun text at)

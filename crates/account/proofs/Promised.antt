@@ -1,0 +1,75 @@
+-- A turn of the day is one call carried out, so what the day leaves is what its list of calls leaves, and the promise about every list of calls
+-- holds of it.
+-- Assumes nothing.
+use mathlib.Core.Path.{_≡_, refl, sym, ap, ap₂, _∙_, subst}
+use mathlib.Core.Bool.{Bool, true, false, cond}
+use mathlib.Core.List.{List, [], _∷_}
+use Prim.Native.Nat.{ℕ, zero, suc}
+use lib.Dec.{eqb}
+use lib.ListN.{length, replicate}
+use Rattle.sheet.specs.declared.Sheet.{Sheet}
+use Rattle.state.specs.declared.Book.{Book}
+use Rattle.state.specs.Book.{emptyBook}
+use Rattle.postings.specs.declared.Posting.{Posting}
+use Rattle.postings.specs.Journal.{noPosting}
+use Rattle.book.specs.declared.Answer.{Answer}
+use Rattle.book.specs.declared.Answer.the-variants.{Accepted, Posted, Refused}
+use Rattle.book.specs.declared.Outcome.{Outcome}
+use Rattle.book.specs.Ledger.{Call, Reply}
+use Rattle.book.specs.Requests.{callFor}
+use Rattle.book.specs.Calls.{State, carriedOut, requestOf, ranFrom, begun as begunState}
+use Rattle.book.specs.Demand.{Demand}
+use Rattle.book.proofs.Promise.{promise}
+use Rattle.journal.specs.Journal.{performed}
+use Rattle.account.specs.declared.Next.{Next}
+use Rattle.account.specs.declared.Next.the-variants.{Ends, Bad, Asks}
+use Rattle.account.specs.declared.Day.{Day}
+use Rattle.account.specs.Day.{nextAt, dayWith, answeredBy, dayAfter, Running, performedIn, turned, ranTo, ranOut, callsTo, stateOf, begun, dayCalls}
+
+-- the day's book and count, whatever comes next
+with-state : (left count : ℕ) (b : Book) (l : List Posting) (n : Next)
+    → _≡_ {A = State} (record { book = dayWith left count b n .book; count = dayWith left count b n .count; journal = l }) (record { book = b; count = count; journal = l })
+with-state left count b l Ends = refl
+with-state left count b l (Bad k) = refl
+with-state left count b l (Asks a after) = refl
+
+after-state : (text : List ℕ) (d : Day) (o : Outcome) (l : List Posting) (a : Answer)
+    → _≡_ {A = State} (record { book = answeredBy text d o a .book; count = answeredBy text d o a .count; journal = l }) (record { book = o .book; count = o .count; journal = l })
+after-state text d o l Accepted = with-state (d .left) (o .count) (o .book) l (nextAt text (d .after))
+after-state text d o l (Posted n) = with-state (d .left) (o .count) (o .book) l (nextAt text (o .place))
+after-state text d o l (Refused r) = refl
+
+module _ (sheet : Sheet) (text : List ℕ) where
+  turn-state : (r : Running) → stateOf (turned sheet text r) ≡ carriedOut sheet (stateOf r) (requestOf sheet (callFor text (r .day .asked))) .state
+  unfolding turned dayAfter performed carriedOut
+  turn-state r = let p = performedIn sheet text r in after-state text (r .day) (p .outcome) (p .list) (p .outcome .answer)
+
+  by-end : (t : Bool) (r : Running) (k : ℕ) → stateOf (ranTo sheet text k r) ≡ ranFrom sheet (stateOf r) (callsTo sheet text k r) .state
+      → stateOf (cond t r (ranTo sheet text k r)) ≡ ranFrom sheet (stateOf r) (cond t [] (callsTo sheet text k r)) .state
+  unfolding ranFrom
+  by-end true r k e = refl
+  by-end false r k e = e
+
+  -- the state after the turns is that after their calls
+  run-state : (k : ℕ) (r : Running) → stateOf (ranTo sheet text k r) ≡ ranFrom sheet (stateOf r) (callsTo sheet text k r) .state
+  unfolding ranTo callsTo ranFrom
+  run-state zero r = refl
+  run-state (suc k) r =
+      let t = turned sheet text r in
+      let last = eqb (t .day .left) 0 in
+      by-end last t k (run-state k t)
+      ∙ ap (λ (st : State). ranFrom sheet st (cond last [] (callsTo sheet text k t)) .state) (turn-state r)
+
+  start-state : (at : ℕ) → stateOf (begun text at) ≡ begunState (replicate 2000 noPosting)
+  unfolding begun
+  start-state at = with-state (suc (length text)) 0 emptyBook (replicate 2000 noPosting) (nextAt text at)
+
+  -- the promise about every list of calls, of the day's
+  pub day-demand : (at : ℕ) → Demand sheet (replicate 2000 noPosting) (dayCalls sheet text at)
+      (ranFrom sheet (begunState (replicate 2000 noPosting)) (dayCalls sheet text at) .replies) (stateOf (ranOut sheet text (begun text at)))
+  day-demand at =
+      let calls = dayCalls sheet text at in
+      let journal = replicate 2000 noPosting in
+      subst (λ (st : State). Demand sheet journal calls (ranFrom sheet (begunState journal) calls .replies) st)
+      (sym (run-state (begun text at .day .left) (begun text at) ∙ ap (λ (st : State). ranFrom sheet st calls .state) (start-state at)))
+      (promise sheet journal calls)
