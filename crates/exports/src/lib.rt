@@ -2,6 +2,9 @@
 ghost use mathlib.Core.Path.{_≡_};
 ghost use Prim.Native.Nat.{_<_, _≤_, min};
 ghost use lib.ListN.{length, set};
+ghost use Rattle.decimal.specs.Output.{output, filled};
+ghost use Rattle.listing.specs.Listing.{mostBytes};
+ghost use Rattle.account.specs.Statement.{statementOf};
 ghost use Rattle.exports.specs.Exports.{commitmentNumbers, markNumbers, energyNumbers, heldNumbers, itemNumbers, amountNumbers, signedOf, postingStored, listedTo, mostPlaces, Owned, ownedOf, Left, calledOf};
 use energy::HubGrains;
 use energy::HubKwh;
@@ -203,4 +206,13 @@ pub extern "C" fn gozalvek_calls(
             0
         }
     }
+}
+
+// The statement of a day's text, written from the start of the buffer on as far as it has room; gives how many bytes are written.
+#[no_mangle]
+pub extern "C" fn gozalvek_statement(text: &[u8], out: &mut [u8]) -> usize
+    ensures { λ r. ⌜ output (now (out .exit)) r ≡ filled (now (out .entry)) (statementOf (now (text .entry))) ⌝ }
+    ensures { λ r. ⌜ r ≤ mostBytes ⌝ }
+{
+    account::statement_of(text, out)
 }
