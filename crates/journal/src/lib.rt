@@ -1,7 +1,8 @@
 // The calls over the lent journal, a list of postings and a count of them. What a call comes to is decided in the crate `book`; here the
 // postings are looked at and appended.
 ghost use mathlib.Core.Path.{_≡_};
-ghost use Prim.Native.Nat.{ℕ, _≤_, _-_};
+ghost use mathlib.Core.List.{List};
+ghost use Prim.Native.Nat.{ℕ, _≤_, _<_, _-_};
 ghost use lib.ListN.{length};
 ghost use Rattle.book.specs.Sound.{WellRead};
 ghost use Rattle.book.specs.Calls.{State, requestOf};
@@ -9,7 +10,8 @@ ghost use Rattle.book.specs.Total.{totalOn};
 ghost use Rattle.book.specs.Requests.{takeRequest, releaseRequest, moveRequest, settleRequest, restateRequest, voidRequest, callFor, callsIn};
 ghost use Rattle.book.specs.Demand.{Demand};
 ghost use Rattle.journal.specs.Journal.{scannedIn, posted, Performed, performed};
-ghost use Rattle.journal.specs.Run.{Running, startRan, turnsOf, handedOn, answered, repliesIn, turned, ranAll};
+ghost use Rattle.journal.specs.Run.{Running, startRan, turnsOf, handedOn, answered, repliesIn, ranAll};
+ghost use Rattle.journal.specs.Stands.{startStand, ranOf, listAt, Stands, Due};
 use book::Asked;
 use book::Outcome;
 use book::Request;
@@ -172,17 +174,39 @@ pub fn total(
     book::total_of(sheet, book, unit, item, count, places, seen)
 }
 
-// What a call of a list hands on to the next.
+// What a list of calls leaves.
 pub struct Ran {
     pub book: Book,
     pub count: u64,
 }
 
-fn started() -> Ran
-    ensures { λ r. ⌜ r ≡ startRan ⌝ }
+// A list of calls under way: the book and the count after the calls before `next`, and whether the sheet keeps its ranges.
+pub struct Stand {
+    pub book: Book,
+    pub count: u64,
+    pub next: usize,
+    pub holds: bool,
+}
+
+// The calls up to one that posts: where the list stands after them, and the n postings of the last one, from place `at` on.
+pub struct Step {
+    pub plan: Plan,
+    pub at: usize,
+    pub n: usize,
+    pub stand: Stand,
+}
+
+// The sheet is tested once for the whole list.
+fn started(sheet: Sheet) -> Stand
+    ensures { λ r. ⌜ r ≡ startStand sheet ⌝ }
 {
     let book = state::empty_book();
-    Ran { book, count: 0 }
+    Stand {
+        book,
+        count: 0,
+        next: 0,
+        holds: sheet::sheet_holds(sheet),
+    }
 }
 
 // As many calls as there are whole groups of eight numbers, and places for four numbers of an answer.
@@ -197,40 +221,74 @@ fn turns(calls: usize, answers: usize) -> usize
     room
 }
 
-// The four numbers of an answer are stored in their places, where there are such; the book and the count are handed on.
-fn kept(answers: &mut [u64], i: usize, o: Outcome) -> Ran
-    ensures { λ r. ⌜ (r ≡ handedOn o) × (now (answers .exit) ≡ answered (now (answers .entry)) i o) ⌝ }
+// The calls from the next one on, up to one that is no take, release or move; that one is carried out too. What it posts is not appended yet.
+fn go_on(
+    sheet: Sheet,
+    calls: &[u64],
+    text: &[u8],
+    answers: &mut [u64],
+    places: usize,
+    n: usize,
+    stand: Stand,
+) -> Step
+    requires { ⌜ Due sheet (now calls) (now text) (now answers) places n stand ⌝ }
+    ensures { λ r. ⌜ ((journal : List Posting) (first : List ℕ) → length journal ≡ places → Stands sheet (now (calls .entry)) (now (text .entry)) journal first (now (answers .entry)) stand → Stands sheet (now (calls .entry)) (now (text .entry)) journal first (now (answers .exit)) (r .stand) × (listAt sheet (now (calls .entry)) (now (text .entry)) journal first (r .stand .next) ≡ posted (listAt sheet (now (calls .entry)) (now (text .entry)) journal first (stand .next)) (r .at) (r .plan) (r .n))) ⌝ }
+    ensures { λ r. ⌜ (r .n ≤ 40) × (r .n ≤ places - r .at) ⌝ }
+    ensures { λ r. ⌜ (stand .next < r .stand .next) × (r .stand .next ≤ n) ⌝ }
 {
-    let answer = o.answer;
-    let book = o.book;
-    if i < answers.len() / 4 {
-        let at = 4 * i;
-        answers[at] = book::number_of(answer);
-        answers[at + 1] = book::line_of(answer);
-        answers[at + 2] = book::posted_of(answer);
-        answers[at + 3] = o.place;
-    }
-    Ran {
-        book,
-        count: o.count,
+    let i = stand.next;
+    let count = stand.count;
+    let book = stand.book;
+    let request = book::request_at(sheet, calls, text, i);
+    let d = book::decide(sheet, book, request, count, places, true);
+    let plan = d.plan;
+    let after = d.book;
+    Step {
+        plan: plan,
+        at: d.at,
+        n: d.n,
+        stand: Stand {
+            book: after,
+            count: d.count,
+            next: i + 1,
+            holds: stand.holds,
+        },
     }
 }
 
-// Call i of a list of calls.
+// The calls from the next one on up to one that posts, and its postings appended.
 fn turn(
     list: &mut [Posting],
     sheet: Sheet,
     calls: &[u64],
     text: &[u8],
     answers: &mut [u64],
-    i: usize,
-    ran: Ran,
-) -> Ran
-    ensures { λ r. ⌜ record { list = now (list .exit); answers = now (answers .exit); ran = r } ≡ turned sheet (now (calls .entry)) (now (text .entry)) (record { list = now (list .entry); answers = now (answers .entry); ran = ran }) i ⌝ }
+    n: usize,
+    stand: Stand,
+) -> Stand
+    requires { ⌜ Due sheet (now calls) (now text) (now answers) (length (now list)) n stand ⌝ }
+    ensures { λ r. ⌜ ((journal : List Posting) (first : List ℕ) → length journal ≡ length (now (list .entry)) → Stands sheet (now (calls .entry)) (now (text .entry)) journal first (now (answers .entry)) stand → now (list .entry) ≡ listAt sheet (now (calls .entry)) (now (text .entry)) journal first (stand .next) → Stands sheet (now (calls .entry)) (now (text .entry)) journal first (now (answers .exit)) r × (now (list .exit) ≡ listAt sheet (now (calls .entry)) (now (text .entry)) journal first (r .next))) × ((stand .next < r .next) × (r .next ≤ n)) ⌝ }
 {
-    let request = book::request_at(sheet, calls, text, i);
-    let o = perform(list, ran.count, sheet, ran.book, request);
-    kept(answers, i, o)
+    let step = go_on(sheet, calls, text, answers, list.len(), n, stand);
+    append(list, step.at, step.plan, step.n);
+    stand_of(step)
+}
+
+fn stand_of(step: Step) -> Stand
+    ensures { λ r. ⌜ r ≡ step .stand ⌝ }
+{
+    let stand = step.stand;
+    stand
+}
+
+fn ran_of(stand: Stand) -> Ran
+    ensures { λ r. ⌜ r ≡ ranOf stand ⌝ }
+{
+    let book = stand.book;
+    Ran {
+        book,
+        count: stand.count,
+    }
 }
 
 // A list of calls, on the empty book and a count of 0.
@@ -244,11 +302,9 @@ pub fn run(
     ensures { λ r. ⌜ (record { list = now (list .exit); answers = now (answers .exit); ran = r } ≡ ranAll sheet (now (calls .entry)) (now (text .entry)) (record { list = now (list .entry); answers = now (answers .entry); ran = startRan }) (turnsOf (length (now (calls .entry))) (length (now (answers .entry))))) × Demand sheet (now (list .entry)) (callsIn (now (calls .entry)) (now (text .entry)) (turnsOf (length (now (calls .entry))) (length (now (answers .entry))))) (repliesIn (now (answers .exit)) (turnsOf (length (now (calls .entry))) (length (now (answers .entry))))) (record { book = r .book; count = r .count; journal = now (list .exit) }) ⌝ }
 {
     let n = turns(calls.len(), answers.len());
-    let mut ran = started();
-    let mut i: usize = 0;
-    while i < n {
-        ran = turn(list, sheet, calls, text, answers, i, ran);
-        i += 1;
+    let mut stand = started(sheet);
+    while stand.next < n {
+        stand = turn(list, sheet, calls, text, answers, n, stand);
     }
-    ran
+    ran_of(stand)
 }
