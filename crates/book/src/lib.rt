@@ -12,7 +12,7 @@ ghost use Rattle.book.specs.Ledger.{void};
 ghost use Rattle.book.specs.Numbers.{refusalNumber, refusalLine, numberOf, lineOf, postedOf};
 ghost use Rattle.book.specs.Total.{noTotal, totalDecided};
 ghost use Rattle.book.specs.Requests.{takeRequest, releaseRequest, moveRequest, voidRequest, settleRequest, restateRequest, partOf, callFor, askedAt, requestAt};
-ghost use Rattle.book.specs.Sound.{PostReady, Sound, WellRead};
+ghost use Rattle.book.specs.Sound.{PostReady, Sound, WellRead, Known};
 use energy::HubKwh;
 use lines::ReadAnswer;
 use lines::TextRefusal;
@@ -550,6 +550,24 @@ pub fn decide(
         return refused(book, count, start, Refusal::BookRange);
     }
     decide_request(sheet, book, request, count, places)
+}
+
+// The same where the book, the count and the postings are known to be in their ranges, and `holds` says whether the sheet is.
+pub fn decide_known(
+    sheet: Sheet,
+    holds: bool,
+    book: Book,
+    request: Request,
+    count: u64,
+    places: usize,
+) -> Decision
+    requires { ⌜ Known sheet holds book count places × WellRead sheet request ⌝ }
+    ensures { λ r. ⌜ r ≡ decided sheet book request count places true ⌝ }
+{
+    if holds {
+        return decide_request(sheet, book, request, count, places);
+    }
+    refused(book, count, request.start, Refusal::SheetRange)
 }
 
 pub fn outcome_of(d: Decision) -> Outcome
