@@ -21,96 +21,7 @@ use Rattle.book.specs.declared.Refusal.{Refusal}
 use Rattle.book.specs.declared.Refusal.the-variants.{Text, SheetRange, HourRange, UnitUnknown, BookRange, HourSettled, NoAmount, OverOffer, HeldLess, SameUnit, Minutes, Readings, Proportions, HourStands, HourOpen, NoPlaces}
 use Rattle.book.specs.declared.Request.{Request}
 use Rattle.book.specs.declared.Decision.{Decision}
-use Rattle.book.specs.Calls.{verdict, badHour, unknownUnits, isSettled, heldKwh, lastKwh, shortOf, withHeld, refusedWith, changedTo, postedWith, recordedAt, takeDecided, releaseDecided, moveDecided, voidDecided, recordDecided, settleDecided, restateDecided, requestRows, requestDecided, acceptedIn, bookFits, decided}
-
--- the tests of an hour, a unit, a settled hour and an amount, one after the other
-module _ (s : Sheet) (b : Book) (count start hour unit kwh : ℕ) where
-  module _ (e10 : badHour hour ≡ false) (e11 : isMember (s .units) unit ≡ true) (e20 : isSettled b hour ≡ false) (e21 : eqb kwh 0 ≡ false) where
-    pub take-22 : ltb (lastKwh s hour unit) (heldKwh b hour unit + kwh) ≡ true → refusedWith b count start OverOffer ≡ takeDecided s b count start hour unit kwh
-    unfolding takeDecided verdict
-    take-22 e = simp (e10, e11, e20, e21, e)
-
-    pub take-done : ltb (lastKwh s hour unit) (heldKwh b hour unit + kwh) ≡ false
-        → changedTo (withHeld b hour unit (heldKwh b hour unit + kwh)) count ≡ takeDecided s b count start hour unit kwh
-    unfolding takeDecided verdict
-    take-done e = simp (e10, e11, e20, e21, e)
-
-    pub release-23 : ltb (heldKwh b hour unit) kwh ≡ true → refusedWith b count start HeldLess ≡ releaseDecided s b count start hour unit kwh
-    unfolding releaseDecided verdict
-    release-23 e = simp (e10, e11, e20, e21, e)
-
-    pub release-done : ltb (heldKwh b hour unit) kwh ≡ false
-        → changedTo (withHeld b hour unit (heldKwh b hour unit - kwh)) count ≡ releaseDecided s b count start hour unit kwh
-    unfolding releaseDecided verdict
-    release-done e = simp (e10, e11, e20, e21, e)
-
-  pub take-10 : badHour hour ≡ true → refusedWith b count start HourRange ≡ takeDecided s b count start hour unit kwh
-  unfolding takeDecided verdict
-  take-10 e = simp e
-
-  pub take-11 : badHour hour ≡ false → isMember (s .units) unit ≡ false → refusedWith b count start UnitUnknown ≡ takeDecided s b count start hour unit kwh
-  unfolding takeDecided verdict
-  take-11 e10 e = simp (e10, e)
-
-  pub take-20 : badHour hour ≡ false → isMember (s .units) unit ≡ true → isSettled b hour ≡ true → refusedWith b count start HourSettled ≡ takeDecided s b count start hour unit kwh
-  unfolding takeDecided verdict
-  take-20 e10 e11 e = simp (e10, e11, e)
-
-  pub take-21 : badHour hour ≡ false → isMember (s .units) unit ≡ true → isSettled b hour ≡ false → eqb kwh 0 ≡ true
-      → refusedWith b count start NoAmount ≡ takeDecided s b count start hour unit kwh
-  unfolding takeDecided verdict
-  take-21 e10 e11 e20 e = simp (e10, e11, e20, e)
-
-  pub release-10 : badHour hour ≡ true → refusedWith b count start HourRange ≡ releaseDecided s b count start hour unit kwh
-  unfolding releaseDecided verdict
-  release-10 e = simp e
-
-  pub release-11 : badHour hour ≡ false → isMember (s .units) unit ≡ false → refusedWith b count start UnitUnknown ≡ releaseDecided s b count start hour unit kwh
-  unfolding releaseDecided verdict
-  release-11 e10 e = simp (e10, e)
-
-  pub release-20 : badHour hour ≡ false → isMember (s .units) unit ≡ true → isSettled b hour ≡ true → refusedWith b count start HourSettled ≡ releaseDecided s b count start hour unit kwh
-  unfolding releaseDecided verdict
-  release-20 e10 e11 e = simp (e10, e11, e)
-
-  pub release-21 : badHour hour ≡ false → isMember (s .units) unit ≡ true → isSettled b hour ≡ false → eqb kwh 0 ≡ true
-      → refusedWith b count start NoAmount ≡ releaseDecided s b count start hour unit kwh
-  unfolding releaseDecided verdict
-  release-21 e10 e11 e20 e = simp (e10, e11, e20, e)
-
--- a move
-module _ (s : Sheet) (b : Book) (count start hour from to kwh : ℕ) where
-  pub move-10 : badHour hour ≡ true → refusedWith b count start HourRange ≡ moveDecided s b count start hour from to kwh
-  unfolding moveDecided verdict
-  move-10 e = simp e
-
-  pub move-11 : badHour hour ≡ false → unknownUnits (s .units) from to ≡ true → refusedWith b count start UnitUnknown ≡ moveDecided s b count start hour from to kwh
-  unfolding moveDecided verdict
-  move-11 e10 e = simp (e10, e)
-
-  pub move-24 : badHour hour ≡ false → unknownUnits (s .units) from to ≡ false → eqb from to ≡ true → refusedWith b count start SameUnit ≡ moveDecided s b count start hour from to kwh
-  unfolding moveDecided verdict
-  move-24 e10 e11 e = simp (e10, e11, e)
-
-  pub move-20 : badHour hour ≡ false → unknownUnits (s .units) from to ≡ false → eqb from to ≡ false → isSettled b hour ≡ true → refusedWith b count start HourSettled ≡ moveDecided s b count start hour from to kwh
-  unfolding moveDecided verdict
-  move-20 e10 e11 e24 e = simp (e10, e11, e24, e)
-
-  pub move-21 : badHour hour ≡ false → unknownUnits (s .units) from to ≡ false → eqb from to ≡ false → isSettled b hour ≡ false → eqb kwh 0 ≡ true → refusedWith b count start NoAmount ≡ moveDecided s b count start hour from to kwh
-  unfolding moveDecided verdict
-  move-21 e10 e11 e24 e20 e = simp (e10, e11, e24, e20, e)
-
-  pub move-23 : badHour hour ≡ false → unknownUnits (s .units) from to ≡ false → eqb from to ≡ false → isSettled b hour ≡ false → eqb kwh 0 ≡ false → ltb (heldKwh b hour from) kwh ≡ true → refusedWith b count start HeldLess ≡ moveDecided s b count start hour from to kwh
-  unfolding moveDecided verdict
-  move-23 e10 e11 e24 e20 e21 e = simp (e10, e11, e24, e20, e21, e)
-
-  pub move-22 : badHour hour ≡ false → unknownUnits (s .units) from to ≡ false → eqb from to ≡ false → isSettled b hour ≡ false → eqb kwh 0 ≡ false → ltb (heldKwh b hour from) kwh ≡ false → ltb (lastKwh s hour to) (heldKwh b hour to + kwh) ≡ true → refusedWith b count start OverOffer ≡ moveDecided s b count start hour from to kwh
-  unfolding moveDecided verdict
-  move-22 e10 e11 e24 e20 e21 e23 e = simp (e10, e11, e24, e20, e21, e23, e)
-
-  pub move-done : badHour hour ≡ false → unknownUnits (s .units) from to ≡ false → eqb from to ≡ false → isSettled b hour ≡ false → eqb kwh 0 ≡ false → ltb (heldKwh b hour from) kwh ≡ false → ltb (lastKwh s hour to) (heldKwh b hour to + kwh) ≡ false → changedTo (withHeld (withHeld b hour from (heldKwh b hour from - kwh)) hour to (heldKwh b hour to + kwh)) count ≡ moveDecided s b count start hour from to kwh
-  unfolding moveDecided verdict
-  move-done e10 e11 e24 e20 e21 e23 e = simp (e10, e11, e24, e20, e21, e23, e)
+use Rattle.book.specs.Calls.{verdict, badHour, unknownUnits, isSettled, heldKwh, lastKwh, shortOf, withHeld, refusedWith, changedTo, postedWith, recordedAt, voidDecided, recordDecided, settleDecided, restateDecided, requestRows, requestDecided, acceptedIn, bookFits, decided}
 
 -- a void
 module _ (s : Sheet) (b : Book) (count start hour places : ℕ) where
@@ -176,7 +87,7 @@ module _ (s : Sheet) (b : Book) (q : Request) (count places : ℕ) where
   unfolding restateDecided verdict
   restate-refused t e = rw e refl
 
-  -- by the kind of the request
+  -- by the kind of the request; takes, releases and moves have theirs in `Committed`
   module _ (n1 : eqb (q .kind) 1 ≡ false) (n2 : eqb (q .kind) 2 ≡ false) (n3 : eqb (q .kind) 3 ≡ false) where
     pub kind-settle : eqb (q .kind) 4 ≡ true → settleDecided s b q count places ≡ requestDecided s b q count places
     unfolding settleDecided requestRows acceptedIn
@@ -189,19 +100,6 @@ module _ (s : Sheet) (b : Book) (q : Request) (count places : ℕ) where
     pub kind-void : eqb (q .kind) 4 ≡ false → eqb (q .kind) 5 ≡ false → voidDecided s b count (q .start) (q .hour) places ≡ requestDecided s b q count places
     unfolding voidDecided requestRows acceptedIn
     kind-void n4 n5 = simp (n1, n2, n3, n4, n5)
-
-  pub kind-take : eqb (q .kind) 1 ≡ true → takeDecided s b count (q .start) (q .hour) (q .unit) (q .kwh) ≡ requestDecided s b q count places
-  unfolding takeDecided requestRows acceptedIn
-  kind-take e = simp e
-
-  pub kind-release : eqb (q .kind) 1 ≡ false → eqb (q .kind) 2 ≡ true → releaseDecided s b count (q .start) (q .hour) (q .unit) (q .kwh) ≡ requestDecided s b q count places
-  unfolding releaseDecided requestRows acceptedIn
-  kind-release n1 e = simp (n1, e)
-
-  pub kind-move : eqb (q .kind) 1 ≡ false → eqb (q .kind) 2 ≡ false → eqb (q .kind) 3 ≡ true
-      → moveDecided s b count (q .start) (q .hour) (q .unit) (q .to) (q .kwh) ≡ requestDecided s b q count places
-  unfolding moveDecided requestRows acceptedIn
-  kind-move n1 n2 e = simp (n1, n2, e)
 
   -- 9, 12 and the request's own rows
   module _ (posted : Bool) where

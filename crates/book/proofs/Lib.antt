@@ -15,6 +15,7 @@ pub mod Simulate
 pub mod Whole
 pub mod Promise
 pub mod Ladders
+pub mod Committed
 pub mod Room
 pub mod Well
 pub mod Places

@@ -33,7 +33,7 @@ abbrev FitsIn : ℕ → Decision → Type 0
 FitsIn places d = (d .n ≤ 40) × (d .n ≤ places - d .at) × (d .n ≤ length (d .plan .row))
 
 -- where no row's condition holds
-passed : (r : Row) (rs : List Row) → verdict (r ∷ rs) ≡ passes → (r .holds ≡ false) × (verdict rs ≡ passes)
+pub passed : (r : Row) (rs : List Row) → verdict (r ∷ rs) ≡ passes → (r .holds ≡ false) × (verdict rs ≡ passes)
 unfolding verdict
 passed r rs e = by (r .holds) refl e
   where

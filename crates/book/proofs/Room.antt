@@ -36,6 +36,9 @@ or-right false b e = e
 pub hour-in : (hour : ℕ) → badHour hour ≡ false → (1 ≤ hour) × (hour ≤ 24)
 hour-in hour e = (ltb-false hour 1 (or-left (ltb hour 1) _ e), ltb-false 24 hour (or-right (ltb hour 1) _ e))
 
+pub unit-in : (unit : ℕ) → (ltb unit 1 || ltb 8 unit) ≡ false → (1 ≤ unit) × (unit ≤ 8)
+unit-in unit e = (ltb-false unit 1 (or-left (ltb unit 1) _ e), ltb-false 8 unit (or-right (ltb unit 1) _ e))
+
 pub hour-unit : (hour units unit : ℕ) → badHour hour ≡ false → isMember units unit ≡ true → (1 ≤ hour) × (hour ≤ 24) × (1 ≤ unit) × (unit ≤ 8)
 hour-unit hour units unit e m = let h = hour-in hour e in let u = member units unit m in (h .0, h .1, u .least, u .most)
 

@@ -83,37 +83,47 @@ abbrev pub alwaysRows : Sheet → Book → (count places : ℕ) → (posted : Bo
 alwaysRows s b count places posted =
     row SheetRange (not (sheetHolds s)) ∷ row BookRange (not (bookHolds s b && (countHolds count places && posted))) ∷ []
 
--- take: 10 11 20 21 22
-abbrev pub takeRows : Sheet → Book → (hour unit kwh : ℕ) → List Row
-takeRows s b hour unit kwh =
+-- take: 10 11 20 21 22, by whether the hour is settled, the unit's commitment and its last offer quantity
+abbrev pub takeTests : (units hour unit kwh : ℕ) → (settled : Bool) → (held last : ℕ) → List Row
+takeTests units hour unit kwh settled held last =
     row HourRange (badHour hour)
-    ∷ row UnitUnknown (not (isMember (s .units) unit))
-    ∷ row HourSettled (isSettled b hour)
+    ∷ row UnitUnknown (not (isMember units unit))
+    ∷ row HourSettled settled
     ∷ row NoAmount (eqb kwh 0)
-    ∷ row OverOffer (ltb (lastKwh s hour unit) (heldKwh b hour unit + kwh))
+    ∷ row OverOffer (ltb last (held + kwh))
     ∷ []
+
+abbrev pub takeRows : Sheet → Book → (hour unit kwh : ℕ) → List Row
+takeRows s b hour unit kwh = takeTests (s .units) hour unit kwh (isSettled b hour) (heldKwh b hour unit) (lastKwh s hour unit)
 
 -- release: 10 11 20 21 23
-abbrev pub releaseRows : Sheet → Book → (hour unit kwh : ℕ) → List Row
-releaseRows s b hour unit kwh =
+abbrev pub releaseTests : (units hour unit kwh : ℕ) → (settled : Bool) → (held : ℕ) → List Row
+releaseTests units hour unit kwh settled held =
     row HourRange (badHour hour)
-    ∷ row UnitUnknown (not (isMember (s .units) unit))
-    ∷ row HourSettled (isSettled b hour)
+    ∷ row UnitUnknown (not (isMember units unit))
+    ∷ row HourSettled settled
     ∷ row NoAmount (eqb kwh 0)
-    ∷ row HeldLess (ltb (heldKwh b hour unit) kwh)
+    ∷ row HeldLess (ltb held kwh)
     ∷ []
 
--- move: 10 11 24 20 21 23 22
+abbrev pub releaseRows : Sheet → Book → (hour unit kwh : ℕ) → List Row
+releaseRows s b hour unit kwh = releaseTests (s .units) hour unit kwh (isSettled b hour) (heldKwh b hour unit)
+
+-- move: 10 11 24 20 21 23 22, by the commitments of the unit that gives and of the one that gets, and the latter's last offer quantity
+abbrev pub moveTests : (units hour from to kwh : ℕ) → (settled : Bool) → (source held last : ℕ) → List Row
+moveTests units hour from to kwh settled source held last =
+    row HourRange (badHour hour)
+    ∷ row UnitUnknown (unknownUnits units from to)
+    ∷ row SameUnit (eqb from to)
+    ∷ row HourSettled settled
+    ∷ row NoAmount (eqb kwh 0)
+    ∷ row HeldLess (ltb source kwh)
+    ∷ row OverOffer (ltb last (held + kwh))
+    ∷ []
+
 abbrev pub moveRows : Sheet → Book → (hour from to kwh : ℕ) → List Row
 moveRows s b hour from to kwh =
-    row HourRange (badHour hour)
-    ∷ row UnitUnknown (unknownUnits (s .units) from to)
-    ∷ row SameUnit (eqb from to)
-    ∷ row HourSettled (isSettled b hour)
-    ∷ row NoAmount (eqb kwh 0)
-    ∷ row HeldLess (ltb (heldKwh b hour from) kwh)
-    ∷ row OverOffer (ltb (lastKwh s hour to) (heldKwh b hour to + kwh))
-    ∷ []
+    moveTests (s .units) hour from to kwh (isSettled b hour) (heldKwh b hour from) (heldKwh b hour to) (lastKwh s hour to)
 
 -- 42: "fewer free places, up to 100,000 in all, than five a unit"
 abbrev pub shortOf : (units count places : ℕ) → Bool
@@ -223,20 +233,6 @@ bookFits s b count places posted = bookHolds s b && (countHolds count places && 
 
 abbrev pub requestDecided : Sheet → Book → Request → (count places : ℕ) → Decision
 requestDecided s b q count places = byVerdict (verdict (requestRows s b q count places)) (acceptedIn s b q count) (refusedWith b count (q .start))
-
-unfoldable pub takeDecided : Sheet → Book → (count start hour unit kwh : ℕ) → Decision
-takeDecided s b count start hour unit kwh =
-    byVerdict (verdict (takeRows s b hour unit kwh)) (changedTo (withHeld b hour unit (heldKwh b hour unit + kwh)) count) (refusedWith b count start)
-
-unfoldable pub releaseDecided : Sheet → Book → (count start hour unit kwh : ℕ) → Decision
-releaseDecided s b count start hour unit kwh =
-    byVerdict (verdict (releaseRows s b hour unit kwh)) (changedTo (withHeld b hour unit (heldKwh b hour unit - kwh)) count) (refusedWith b count start)
-
-unfoldable pub moveDecided : Sheet → Book → (count start hour from to kwh : ℕ) → Decision
-moveDecided s b count start hour from to kwh =
-    byVerdict (verdict (moveRows s b hour from to kwh))
-    (changedTo (withHeld (withHeld b hour from (heldKwh b hour from - kwh)) hour to (heldKwh b hour to + kwh)) count)
-    (refusedWith b count start)
 
 unfoldable pub voidDecided : Sheet → Book → (count start hour places : ℕ) → Decision
 voidDecided s b count start hour places =

@@ -2,6 +2,7 @@ pub mod Ledger
 pub mod Reckoned
 pub mod Numbers
 pub mod Calls
+pub mod Commitments
 pub mod Sound
 pub mod Agrees
 pub mod Demand

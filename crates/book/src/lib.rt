@@ -1,13 +1,14 @@
 // The calls on the book: what each is refused for, and what an accepted one changes and posts. The functions over the lent journal
 // stand in the crate above; what they post is decided here.
 ghost use mathlib.Core.Path.{_≡_};
-ghost use mathlib.Core.Bool.{true, _&&_};
-ghost use lib.Dec.{leb};
-ghost use Prim.Native.Nat.{_≤_, min};
+ghost use mathlib.Core.Bool.{true, false, _&&_, _||_};
+ghost use lib.Dec.{leb, ltb, eqb};
+ghost use Prim.Native.Nat.{_+_, _^_, _≤_, _<_, min};
 ghost use Rattle.state.specs.Ranges.{bookHolds};
 ghost use Rattle.sheet.specs.Ranges.{sheetHolds};
 ghost use Rattle.settlement.specs.Ranges.{HourRead};
-ghost use Rattle.book.specs.Calls.{badHour, unknownUnits, shortOf, isSettled, heldKwh, lastKwh, withHeld, noPlan, refusedWith, changedTo, postedWith, takeDecided, releaseDecided, moveDecided, voidDecided, recordDecided, settleDecided, restateDecided, requestDecided, bookFits, decided, outcomeOf, plainRequest, recordRequest, requestOf};
+ghost use Rattle.book.specs.Calls.{verdict, badHour, unknownUnits, shortOf, isSettled, takeTests, releaseTests, moveTests, noPlan, refusedWith, changedTo, postedWith, voidDecided, recordDecided, settleDecided, restateDecided, requestDecided, bookFits, decided, outcomeOf, plainRequest, recordRequest, requestOf};
+ghost use Rattle.book.specs.Commitments.{hourPlace, entryPlace, commitVerdict, targetOf, leftWith, heldThen, commitmentDecided};
 ghost use Rattle.book.specs.Ledger.{void};
 ghost use Rattle.book.specs.Numbers.{refusalNumber, refusalLine, numberOf, lineOf, postedOf};
 ghost use Rattle.book.specs.Total.{noTotal, totalDecided};
@@ -177,22 +178,6 @@ fn units_unknown(units: u64, from: u64, to: u64) -> bool
     !units::has_unit(units, to)
 }
 
-fn held_kwh(book: Book, hour: u64, unit: u64) -> u64
-    requires { ⌜ (1 ≤ hour) × (hour ≤ 24) × (1 ≤ unit) × (unit ≤ 8) ⌝ }
-    ensures { λ r. ⌜ r ≡ heldKwh book hour unit ⌝ }
-{
-    let held = state::commitment_at(book, (hour - 1) as usize, (unit - 1) as usize);
-    held.0
-}
-
-fn last_kwh(sheet: Sheet, hour: u64, unit: u64) -> u64
-    requires { ⌜ (1 ≤ hour) × (hour ≤ 24) × (1 ≤ unit) × (unit ≤ 8) ⌝ }
-    ensures { λ r. ⌜ r ≡ lastKwh sheet hour unit ⌝ }
-{
-    let last = state::limit_at(sheet, (hour - 1) as usize, (unit - 1) as usize);
-    last.0
-}
-
 fn is_settled(book: Book, hour: u64) -> bool
     requires { ⌜ (1 ≤ hour) × (hour ≤ 24) ⌝ }
     ensures { λ r. ⌜ r ≡ isSettled book hour ⌝ }
@@ -200,122 +185,241 @@ fn is_settled(book: Book, hour: u64) -> bool
     state::mark_at(book, (hour - 1) as usize) == 1
 }
 
-fn with_held(book: Book, hour: u64, unit: u64, kwh: u64) -> Book
-    requires { ⌜ (1 ≤ hour) × (hour ≤ 24) × (1 ≤ unit) × (unit ≤ 8) ⌝ }
-    ensures { λ r. ⌜ r ≡ withHeld book hour unit kwh ⌝ }
+// Where an hour stands in the book, 0 for one that is none.
+pub fn hour_place(hour: u64) -> usize
+    ensures { λ r. ⌜ r ≡ hourPlace hour ⌝ }
+    ensures { λ r. ⌜ r < 24 ⌝ }
 {
-    state::with_commitment(book, (hour - 1) as usize, (unit - 1) as usize, HubKwh(kwh))
+    if hour_bad(hour) {
+        return 0;
+    }
+    (hour - 1) as usize
+}
+
+fn no_unit(unit: u64) -> bool
+    ensures { λ r. ⌜ r ≡ (ltb unit 1 || ltb 8 unit) ⌝ }
+{
+    if unit < 1 {
+        return true;
+    }
+    8 < unit
+}
+
+// Where a unit stands in an hour of the book, 0 for one that is none.
+pub fn entry_place(hour: u64, unit: u64) -> usize
+    ensures { λ r. ⌜ r ≡ entryPlace hour unit ⌝ }
+    ensures { λ r. ⌜ r < 192 ⌝ }
+{
+    if hour_bad(hour) {
+        return 0;
+    }
+    if no_unit(unit) {
+        return 0;
+    }
+    (8 * (hour - 1) + (unit - 1)) as usize
+}
+
+// 22: whether what is held and what comes to it exceed the last offer quantity.
+fn over_offer(last: u64, held: u64, kwh: u64) -> bool
+    ensures { λ r. ⌜ r ≡ ltb last (held + kwh) ⌝ }
+{
+    if last < kwh {
+        return true;
+    }
+    last - kwh < held
 }
 
 // take: 10 11 20 21 22.
-fn decide_take(
-    sheet: Sheet,
-    book: Book,
-    count: u64,
-    start: u64,
+fn take_verdict(
+    units: u64,
     hour: u64,
     unit: u64,
     kwh: u64,
-) -> Decision
-    requires { ⌜ (sheetHolds sheet ≡ true) × (bookHolds sheet book ≡ true) ⌝ }
-    ensures { λ r. ⌜ r ≡ takeDecided sheet book count start hour unit kwh ⌝ }
+    settled: bool,
+    held: u64,
+    last: u64,
+) -> Verdict
+    ensures { λ r. ⌜ r ≡ verdict (takeTests units hour unit kwh settled held last) ⌝ }
 {
     if hour_bad(hour) {
-        return refused(book, count, start, Refusal::HourRange);
+        return Verdict::Refused(Refusal::HourRange);
     }
-    if !units::has_unit(sheet.units, unit) {
-        return refused(book, count, start, Refusal::UnitUnknown);
+    if !units::has_unit(units, unit) {
+        return Verdict::Refused(Refusal::UnitUnknown);
     }
-    if is_settled(book, hour) {
-        return refused(book, count, start, Refusal::HourSettled);
+    if settled {
+        return Verdict::Refused(Refusal::HourSettled);
     }
     if kwh == 0 {
-        return refused(book, count, start, Refusal::NoAmount);
+        return Verdict::Refused(Refusal::NoAmount);
     }
-    let held = held_kwh(book, hour, unit);
-    if last_kwh(sheet, hour, unit) - held < kwh {
-        return refused(book, count, start, Refusal::OverOffer);
+    if over_offer(last, held, kwh) {
+        return Verdict::Refused(Refusal::OverOffer);
     }
-    changed(with_held(book, hour, unit, held + kwh), count)
+    Verdict::Accepted
 }
 
 // release: 10 11 20 21 23.
-fn decide_release(
-    sheet: Sheet,
-    book: Book,
-    count: u64,
-    start: u64,
-    hour: u64,
-    unit: u64,
-    kwh: u64,
-) -> Decision
-    ensures { λ r. ⌜ r ≡ releaseDecided sheet book count start hour unit kwh ⌝ }
+fn release_verdict(units: u64, hour: u64, unit: u64, kwh: u64, settled: bool, held: u64) -> Verdict
+    ensures { λ r. ⌜ r ≡ verdict (releaseTests units hour unit kwh settled held) ⌝ }
 {
     if hour_bad(hour) {
-        return refused(book, count, start, Refusal::HourRange);
+        return Verdict::Refused(Refusal::HourRange);
     }
-    if !units::has_unit(sheet.units, unit) {
-        return refused(book, count, start, Refusal::UnitUnknown);
+    if !units::has_unit(units, unit) {
+        return Verdict::Refused(Refusal::UnitUnknown);
     }
-    if is_settled(book, hour) {
-        return refused(book, count, start, Refusal::HourSettled);
+    if settled {
+        return Verdict::Refused(Refusal::HourSettled);
     }
     if kwh == 0 {
-        return refused(book, count, start, Refusal::NoAmount);
+        return Verdict::Refused(Refusal::NoAmount);
     }
-    let held = held_kwh(book, hour, unit);
     if held < kwh {
-        return refused(book, count, start, Refusal::HeldLess);
+        return Verdict::Refused(Refusal::HeldLess);
     }
-    changed(with_held(book, hour, unit, held - kwh), count)
+    Verdict::Accepted
 }
 
 // move: 10 11 24 20 21 23 22.
-fn decide_move(
-    sheet: Sheet,
-    book: Book,
-    count: u64,
-    start: u64,
+fn move_verdict(
+    units: u64,
     hour: u64,
     from: u64,
     to: u64,
     kwh: u64,
-) -> Decision
-    requires { ⌜ (sheetHolds sheet ≡ true) × (bookHolds sheet book ≡ true) ⌝ }
-    ensures { λ r. ⌜ r ≡ moveDecided sheet book count start hour from to kwh ⌝ }
+    settled: bool,
+    source: u64,
+    held: u64,
+    last: u64,
+) -> Verdict
+    ensures { λ r. ⌜ r ≡ verdict (moveTests units hour from to kwh settled source held last) ⌝ }
 {
     if hour_bad(hour) {
-        return refused(book, count, start, Refusal::HourRange);
+        return Verdict::Refused(Refusal::HourRange);
     }
-    if units_unknown(sheet.units, from, to) {
-        return refused(book, count, start, Refusal::UnitUnknown);
+    if units_unknown(units, from, to) {
+        return Verdict::Refused(Refusal::UnitUnknown);
     }
     if from == to {
-        return refused(book, count, start, Refusal::SameUnit);
+        return Verdict::Refused(Refusal::SameUnit);
     }
-    if is_settled(book, hour) {
-        return refused(book, count, start, Refusal::HourSettled);
+    if settled {
+        return Verdict::Refused(Refusal::HourSettled);
     }
     if kwh == 0 {
-        return refused(book, count, start, Refusal::NoAmount);
+        return Verdict::Refused(Refusal::NoAmount);
     }
-    let source = held_kwh(book, hour, from);
     if source < kwh {
-        return refused(book, count, start, Refusal::HeldLess);
+        return Verdict::Refused(Refusal::HeldLess);
     }
-    let held = held_kwh(book, hour, to);
-    if last_kwh(sheet, hour, to) - held < kwh {
-        return refused(book, count, start, Refusal::OverOffer);
+    if over_offer(last, held, kwh) {
+        return Verdict::Refused(Refusal::OverOffer);
     }
-    changed(
-        with_held(
-            with_held(book, hour, from, source - kwh),
-            hour,
-            to,
-            held + kwh,
-        ),
-        count,
-    )
+    Verdict::Accepted
+}
+
+// Whether a take (kind 1), a release (2) or a move (3) is accepted, by the commitments of the units that give and get, and the latter's last
+// offer quantity.
+pub fn commit_verdict(
+    kind: u64,
+    units: u64,
+    hour: u64,
+    unit: u64,
+    to: u64,
+    kwh: u64,
+    settled: bool,
+    source: u64,
+    held: u64,
+    last: u64,
+) -> Verdict
+    ensures { λ r. ⌜ r ≡ commitVerdict kind units hour unit to kwh settled source held last ⌝ }
+{
+    if kind == 1 {
+        return take_verdict(units, hour, unit, kwh, settled, held, last);
+    }
+    if kind == 2 {
+        return release_verdict(units, hour, unit, kwh, settled, held);
+    }
+    move_verdict(units, hour, unit, to, kwh, settled, source, held, last)
+}
+
+// The unit that gets: in a take and in a release it is the only one.
+pub fn target_of(kind: u64, unit: u64, to: u64) -> u64
+    ensures { λ r. ⌜ r ≡ targetOf kind unit to ⌝ }
+{
+    if kind == 3 {
+        return to;
+    }
+    unit
+}
+
+// What the unit that gives is left with.
+pub fn left_with(kind: u64, source: u64, kwh: u64) -> u64
+    requires { ⌜ (eqb kind 1 ≡ false → kwh ≤ source) ⌝ }
+    ensures { λ r. ⌜ r ≡ leftWith kind source kwh ⌝ }
+{
+    if kind == 1 {
+        return source;
+    }
+    source - kwh
+}
+
+// What the unit that gets holds then.
+pub fn held_then(kind: u64, held: u64, kwh: u64) -> u64
+    requires { ⌜ (eqb kind 2 ≡ true → kwh ≤ held) × (eqb kind 2 ≡ false → held + kwh < 2 ^ 64) ⌝ }
+    ensures { λ r. ⌜ r ≡ heldThen kind held kwh ⌝ }
+{
+    if kind == 2 {
+        return held - kwh;
+    }
+    held + kwh
+}
+
+// A take, release or move.
+fn decide_commitment(
+    sheet: Sheet,
+    book: Book,
+    count: u64,
+    start: u64,
+    kind: u64,
+    hour: u64,
+    unit: u64,
+    to: u64,
+    kwh: u64,
+) -> Decision
+    requires { ⌜ (1 ≤ kind) × (kind ≤ 3) ⌝ }
+    ensures { λ r. ⌜ r ≡ commitmentDecided sheet book count start kind hour unit to kwh ⌝ }
+{
+    let units = sheet.units;
+    let h = hour_place(hour);
+    let from = entry_place(hour, unit);
+    let target = entry_place(hour, target_of(kind, unit, to));
+    let settled = book.mark[h] == 1;
+    let source = book.commitment[from];
+    let held = book.commitment[target];
+    let last = state::limit_at(sheet, target / 8, target % 8);
+    let verdict = commit_verdict(
+        kind,
+        units,
+        hour,
+        unit,
+        to,
+        kwh,
+        settled,
+        source.0,
+        held.0,
+        last.0,
+    );
+    match verdict {
+        Verdict::Refused(refusal) => refused(book, count, start, refusal),
+        Verdict::Accepted => {
+            let mut after = book;
+            after.commitment[from] = HubKwh(left_with(kind, source.0, kwh));
+            after.commitment[target] = HubKwh(held_then(kind, held.0, kwh));
+            changed(after, count)
+        }
+    }
 }
 
 // 42: fewer free places, up to 100,000 in all, than five a unit.
@@ -489,6 +593,16 @@ fn decide_restate(sheet: Sheet, book: Book, request: Request, count: u64, places
     }
 }
 
+// Whether a kind is that of a take, a release or a move.
+pub fn commits(kind: u64) -> bool
+    ensures { λ r. ⌜ r ≡ (leb 1 kind && leb kind 3) ⌝ }
+{
+    if kind < 1 {
+        return false;
+    }
+    kind <= 3
+}
+
 // The request's own rows, once the sheet and the book are in their ranges.
 fn decide_request(sheet: Sheet, book: Book, request: Request, count: u64, places: usize) -> Decision
     requires { ⌜ Sound sheet book request count ⌝ }
@@ -499,14 +613,8 @@ fn decide_request(sheet: Sheet, book: Book, request: Request, count: u64, places
     let hour = request.hour;
     let unit = request.unit;
     let kwh = request.kwh;
-    if kind == 1 {
-        return decide_take(sheet, book, count, start, hour, unit, kwh);
-    }
-    if kind == 2 {
-        return decide_release(sheet, book, count, start, hour, unit, kwh);
-    }
-    if kind == 3 {
-        return decide_move(sheet, book, count, start, hour, unit, request.to, kwh);
+    if commits(kind) {
+        return decide_commitment(sheet, book, count, start, kind, hour, unit, request.to, kwh);
     }
     if kind == 4 {
         return decide_settle(sheet, book, request, count, places);

@@ -1,0 +1,29 @@
+-- The test is the definition's, and an hour that passes it is one of 24.
+-- Assumes nothing.
+use mathlib.Core.Path.{sym, _∙_}
+use native.Mathlib.Omega.{arith}
+use Rattle.book.specs.Commitments.{hourPlace}
+use Rattle.book.proofs.Room.{hour-in}
+use borrow.Author.Needs.{needs}
+use Rattle.book.proofs.hour_place.Statement.{statement}
+use Rattle.book.proofs.hour_place.Tie as tie
+
+hour-bad-requires : tie.Need-hour-bad-requires
+hour-bad-requires c κs = search needs
+
+returns : tie.Need-returns
+unfolding hourPlace
+returns c = (simp (sym (c .before .hour-bad .ensures) ∙ c .if1 .taken), omega arith)
+
+sub-result : tie.Need-sub-result
+sub-result c = let h = hour-in (c .before .before .args .hour) (sym (c .before .hour-bad .ensures) ∙ c .if1 .left) in omega (arith, h .0)
+
+returns-2 : tie.Need-returns-2
+unfolding hourPlace
+returns-2 c =
+    let e = sym (c .before .hour-bad .ensures) ∙ c .if1 .left in
+    let h = hour-in (c .before .before .args .hour) e in
+    (simp e, omega (arith, h .0, h .1))
+
+pub hour-place-spec : {M : Type 1} → statement M
+hour-place-spec = tie.close (tie.spec hour-bad-requires returns sub-result returns-2)
