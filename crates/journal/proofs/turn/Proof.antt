@@ -46,7 +46,7 @@ use Rattle.journal.specs.declared.Stand.{Stand}
 use Rattle.journal.specs.declared.Step.{Step}
 use Rattle.journal.specs.Journal.{posted}
 use Rattle.journal.specs.Stands.{Due}
-use Rattle.journal.proofs.Stood.{Goes, Turns, stood}
+use Rattle.journal.proofs.Stood.{Goes, Leaves, stood}
 use Rattle.journal.proofs.Typed.{typed-sheet, typed-stand, typed-step}
 use Rattle.postings.proofs.Posting as T
 use Rattle.postings.proofs.Plan as P
@@ -77,9 +77,6 @@ use Rattle.journal.proofs.turn.Code.Mir as body
 
 abbrev tyZ : Ty
 tyZ = spell body.table (pointee (Z.the-row .written))
-
-here-sheet : (v : Val) → Holds (hasTy Z′.mir v) × WT v → Holds (hasTy tyZ v) × WT v
-here-sheet v h = h
 
 abbrev tyG : Ty
 tyG = spell body.table (pointee (G.the-row .written))
@@ -199,7 +196,7 @@ module _ {M : Type 1} (𝓤 : URA M) (H : Heap 𝓤) (A : Atoms 𝓤) (W : Given
     goes-out : ent 𝓤 (sem 𝓤 H A ftrue) (Out 𝓤 H A mem run .pre to-out)
     goes-out = qed W (‵ ftrue ∷ []) ∵ nothing ! $ owned ! E.the-row (Is E.the-row) (LL.makes E.the-type E′.the-plain 𝓤 H A) d _ is $ fjoin ! $ move ! (1 ∷ 0 ∷ []) $ join ! $ frame ! $ done !
 
-  exits : (r : Stand) (v : Val) (zs : List Posting) (ws : List ℕ) → Turns sheet (calls .now) (text .now) ys zs ns ws stand r × ((stand .next < r .next) × (r .next ≤ n)) → length zs ≡ len → length ws ≡ length ns
+  exits : (r : Stand) (v : Val) (zs : List Posting) (ws : List ℕ) → Leaves sheet (calls .now) (text .now) ys zs ns ws stand r × ((stand .next < r .next) × (r .next ≤ n)) → length zs ≡ len → length ws ≡ length ns
       → ent 𝓤 (⋆ 𝓤 H A ((‵ (flft κ q) ⊛ ‵ ftrue) ∷ (‵ (flft κ₁ q₁) ⊛ (‵ (flft κ₂ q₂) ⊛ (‵ (flft κ₃ q₃) ⊛ ‵ ftrue))) ∷ ‵ (finally T.the-row γ zs) ∷ ‵ Calls₀ ∷ ‵ Text ∷ ‵ (finally u64 δ ws) ∷ ‵ (G.the-row .own r (v ∷ [])) ∷ [])) (Post v)
   exits r v zs ws e same same₃ =
       qed W ((‵ (flft κ q) ⊛ ‵ ftrue) ∷ (‵ (flft κ₁ q₁) ⊛ (‵ (flft κ₂ q₂) ⊛ (‵ (flft κ₃ q₃) ⊛ ‵ ftrue))) ∷ ‵ (finally T.the-row γ zs) ∷ ‵ Calls₀ ∷ ‵ Text ∷ ‵ (finally u64 δ ws) ∷ ‵ (G.the-row .own r (v ∷ [])) ∷ []) ∵
