@@ -6,3 +6,4 @@ pub mod Typed
 pub mod Listed
 pub mod Params
 pub mod Thin
+pub mod Stood

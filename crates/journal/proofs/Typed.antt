@@ -18,6 +18,8 @@ use Rattle.book.specs.declared.Decision.{Decision}
 use Rattle.book.specs.declared.Outcome.{Outcome}
 use Rattle.book.specs.declared.TotalAnswer.{TotalAnswer}
 use Rattle.journal.specs.declared.Ran.{Ran}
+use Rattle.journal.specs.declared.Stand.{Stand}
+use Rattle.journal.specs.declared.Step.{Step}
 use Rattle.postings.proofs.Scanned as C
 use Rattle.postings.proofs.Scanned.Laws as C′
 use Rattle.postings.proofs.Plan as P
@@ -38,6 +40,10 @@ use Rattle.book.proofs.TotalAnswer as U
 use Rattle.book.proofs.TotalAnswer.Laws as U′
 use Rattle.journal.proofs.Ran as R
 use Rattle.journal.proofs.Ran.Laws as R′
+use Rattle.journal.proofs.Stand as N
+use Rattle.journal.proofs.Stand.Laws as N′
+use Rattle.journal.proofs.Step as E
+use Rattle.journal.proofs.Step.Laws as E′
 
 module _ {M : Type 1} (𝓤 : URA M) (H : Heap 𝓤) (A : Atoms 𝓤) (W : Given 𝓤 H A) where
   pub typed-scanned : (d : Scanned) (v : Val) → Is C.the-row d (v ∷ []) → Holds (hasTy C′.mir v) × WT v
@@ -69,3 +75,9 @@ module _ {M : Type 1} (𝓤 : URA M) (H : Heap 𝓤) (A : Atoms 𝓤) (W : Given
 
   pub typed-ran : (d : Ran) (v : Val) → Is R.the-row d (v ∷ []) → Holds (hasTy R′.mir v) × WT v
   typed-ran d v is = LL.lawful R.the-type R′.the-laws 𝓤 H A W .typed d (v ∷ []) is .0
+
+  pub typed-stand : (d : Stand) (v : Val) → Is N.the-row d (v ∷ []) → Holds (hasTy N′.mir v) × WT v
+  typed-stand d v is = LL.lawful N.the-type N′.the-laws 𝓤 H A W .typed d (v ∷ []) is .0
+
+  pub typed-step : (d : Step) (v : Val) → Is E.the-row d (v ∷ []) → Holds (hasTy E′.mir v) × WT v
+  typed-step d v is = LL.lawful E.the-type E′.the-laws 𝓤 H A W .typed d (v ∷ []) is .0
