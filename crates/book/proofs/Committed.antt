@@ -1,12 +1,12 @@
 -- A take, release or move in numbers is what its rows say: where 10 and 11 pass, the places that are read and written are those of its hour and units,
 -- and where they do not, the rest is not looked at.
 -- Assumes nothing.
-use mathlib.Core.Path.{_≡_, refl, ap, ap₂, sym, _∙_}
+use mathlib.Core.Path.{_≡_, refl, ap, ap₂, sym, _∙_, subst}
 use mathlib.Core.Bool.{Bool, true, false, cond, not, _&&_, _||_}
 use mathlib.Core.List.{List, [], _∷_}
-use Prim.Native.Nat.{ℕ, _+_, _-_, _*_, _/_, _%_, _≤_, _<_, _^_}
+use Prim.Native.Nat.{ℕ, _+_, _-_, _*_, _/_, _%_, _≤_, _<_}
 use native.Mathlib.Omega.{arith}
-use borrow.Author.Tests.{ltb-false, le-ltb, eqb-true, eqb-false, leb-true, not-false}
+use borrow.Author.Tests.{ltb-false, le-ltb, eqb-true, eqb-false, ne-eqb, leb-true, not-false}
 use lib.Dec.{ltb, leb, eqb}
 use lib.ListN.{getD, set}
 use lib.Seq.{set-set}
@@ -78,6 +78,15 @@ module _ (s : Sheet) (b : Book) (hour : ℕ) where
   one p x y entry e =
       ap (λ (l : List HubKwh). record { commitment = l; mark = b .mark; energy = b .energy; amounts = b .amounts })
       (set-set (b .commitment) p (record { 0 = x }) (record { 0 = y }) ∙ ap (λ (n : ℕ). set (b .commitment) n (record { 0 = y })) e)
+
+-- the other kinds
+pub kind-other : (kind : ℕ) → (leb 1 kind && leb kind 3) ≡ false → (eqb kind 1 ≡ false) × (eqb kind 2 ≡ false) × (eqb kind 3 ≡ false)
+kind-other kind e = (ne-eqb kind 1 (is 1 refl), ne-eqb kind 2 (is 2 refl), ne-eqb kind 3 (is 3 refl))
+  where
+    is : (n : ℕ) → (leb 1 n && leb n 3) ≡ true → kind ≡ n → ⊥
+    is n t k =
+        let z : true ≡ false = sym t ∙ (ap (λ (m : ℕ). leb 1 m && leb m 3) (sym k) ∙ e) in
+        absurd (let y : _≡_ {A = ℕ} 0 1 = cc in omega arith)
 
 -- what an accepted one tells
 take-told : (units hour unit kwh : ℕ) (settled : Bool) (held last : ℕ) → verdict (takeTests units hour unit kwh settled held last) ≡ Accepted → held + kwh ≤ last
@@ -209,3 +218,45 @@ module _ (s : Sheet) (b : Book) (q : Request) (count places : ℕ) where
         where
           none : (q .kind ≡ 1 → ⊥) → (q .kind ≡ 2 → ⊥) → (q .kind ≡ 3 → ⊥) → ⊥
           none a b c = omega (arith, a, b, c, low, high)
+
+-- the same as the code has it: the places and the last offer quantity are results of calls
+module _ (s : Sheet) (b : Book) (count start kind hour unit to kwh : ℕ) (h from t target : ℕ) (last : HubKwh)
+    (h-is : h ≡ hourPlace hour) (from-is : from ≡ entryPlace hour unit) (t-is : t ≡ targetOf kind unit to) (target-is : target ≡ entryPlace hour t)
+    (last-is : last ≡ limitAt s (target / 8) (target % 8)) where
+  abbrev found : Verdict
+  found =
+      commitVerdict kind (s .units) hour unit to kwh (eqb (getD (b .mark) h 0) settledMark) (getD (b .commitment) from noKwh .0)
+      (getD (b .commitment) target noKwh .0) (last .0)
+
+  pub refused-is : (r : Refusal) → found ≡ Refused r → refusedWith b count start r ≡ commitmentDecided s b count start kind hour unit to kwh
+  unfolding commitmentDecided
+  refused-is r e = rw (sym t-is, sym target-is, sym from-is, sym h-is, sym last-is, e) refl
+
+  pub accepted-is : (x y : ℕ) → x ≡ leftWith kind (getD (b .commitment) from noKwh .0) kwh → y ≡ heldThen kind (getD (b .commitment) target noKwh .0) kwh → found ≡ Accepted
+      → changedTo (record { commitment = set (set (b .commitment) from (record { 0 = x })) target (record { 0 = y }); mark = b .mark; energy = b .energy; amounts = b .amounts }) count
+      ≡ commitmentDecided s b count start kind hour unit to kwh
+  unfolding commitmentDecided
+  accepted-is x y x-is y-is e = rw (sym t-is, sym target-is, sym from-is, sym h-is, sym last-is, x-is, y-is, e) refl
+
+  -- what is subtracted is there
+  pub source-enough : found ≡ Accepted → eqb kind 1 ≡ false → kwh ≤ getD (b .commitment) from noKwh .0
+  source-enough e n1 = by (eqb kind 2) refl
+    where
+      told : Told kind kwh (getD (b .commitment) from noKwh .0) (getD (b .commitment) target noKwh .0) (last .0)
+      told = verdict-told kind (s .units) hour unit to kwh (eqb (getD (b .mark) h 0) settledMark) _ _ _ e
+
+      by : (u : Bool) → eqb kind 2 ≡ u → kwh ≤ getD (b .commitment) from noKwh .0
+      by true k2 =
+          let n3 : eqb kind 3 ≡ false = ne-eqb kind 3 (λ k3. let x = eqb-true kind 2 k2 in omega arith) in
+          let same : target ≡ from = target-is ∙ (ap (entryPlace hour) (t-is ∙ simp n3) ∙ sym from-is) in
+          subst (λ (n : ℕ). kwh ≤ getD (b .commitment) n noKwh .0) same (told .less k2)
+      by false k2 = told .gives n1 k2
+
+  pub target-enough : found ≡ Accepted → eqb kind 2 ≡ true → kwh ≤ getD (b .commitment) target noKwh .0
+  target-enough e = verdict-told kind (s .units) hour unit to kwh (eqb (getD (b .mark) h 0) settledMark) _ _ _ e .less
+
+  pub target-room : found ≡ Accepted → last .0 < 18446744073709551616 → eqb kind 2 ≡ false
+      → getD (b .commitment) target noKwh .0 + kwh < 18446744073709551616
+  target-room e l k2 =
+      let r = verdict-told kind (s .units) hour unit to kwh (eqb (getD (b .mark) h 0) settledMark) _ _ _ e .room k2 in
+      omega (arith, r, l)

@@ -1,113 +1,84 @@
+-- Each return is one way through the rows of the call; where it is accepted, both stores are the definition's.
+-- Assumes nothing.
+use mathlib.Core.Path.{sym, _∙_}
+use Rattle.book.proofs.Committed.{refused-is, accepted-is, source-enough, target-enough, target-room}
 use borrow.Author.Needs.{needs}
 use Rattle.book.proofs.decide_commitment.Statement.{statement}
 use Rattle.book.proofs.decide_commitment.Tie as tie
-use Rattle.book.proofs.decide_commitment.Reads as reads
-use Rattle.book.proofs.decide_commitment.Lts as lts
-use Rattle.book.proofs.changed.Reads as changed-reads
-use Rattle.book.proofs.commit_verdict.Reads as commit-verdict-reads
-use Rattle.book.proofs.entry_place.Reads as entry-place-reads
-use Rattle.book.proofs.held_then.Reads as held-then-reads
-use Rattle.book.proofs.hour_place.Reads as hour-place-reads
-use Rattle.book.proofs.left_with.Reads as left-with-reads
-use Rattle.book.proofs.refused.Reads as refused-reads
-use Rattle.book.proofs.target_of.Reads as target-of-reads
-use Rattle.state.proofs.limit_at.Reads as limit-at-reads
 
--- src/lib.rt:395:9
 hour-place-requires : tie.Need-hour-place-requires
 hour-place-requires c κs = search needs
 
--- src/lib.rt:396:9
 entry-place-requires : tie.Need-entry-place-requires
 entry-place-requires c κs = search needs
 
--- src/lib.rt:397:36
 target-of-requires : tie.Need-target-of-requires
 target-of-requires c κs = search needs
 
--- src/lib.rt:397:9
 entry-place-requires-2 : tie.Need-entry-place-requires-2
 entry-place-requires-2 c κs = search needs
 
--- src/lib.rt:398:19
 mul-settled : tie.Need-mul-settled
 mul-settled c = search needs
 
--- src/lib.rt:398:19
 element-copy-out-settled : tie.Need-element-copy-out-settled
 element-copy-out-settled c = search needs
 
--- src/lib.rt:399:18
 mul-source : tie.Need-mul-source
 mul-source c = search needs
 
--- src/lib.rt:399:18
 element-copy-out-source : tie.Need-element-copy-out-source
 element-copy-out-source c = search needs
 
--- src/lib.rt:400:16
 mul-held : tie.Need-mul-held
 mul-held c = search needs
 
--- src/lib.rt:400:16
 element-copy-out-held : tie.Need-element-copy-out-held
 element-copy-out-held c = search needs
 
--- src/lib.rt:401:9
 limit-at-requires : tie.Need-limit-at-requires
 limit-at-requires c κs = search needs
 
--- src/lib.rt:402:9
 commit-verdict-requires : tie.Need-commit-verdict-requires
 commit-verdict-requires c κs = search needs
 
--- src/lib.rt:415:26
 enum-known-verdict : tie.Need-enum-known-verdict
 enum-known-verdict c = search needs
 
--- src/lib.rt:415:38
 refused-requires : tie.Need-refused-requires
 refused-requires c κs = search needs
 
--- src/lib.rt:417:29
 enum-told : tie.Need-enum-told
 enum-told c = search needs
 
--- src/lib.rt:418:45
 left-with-requires : tie.Need-left-with-requires
-left-with-requires c κs = ?
+left-with-requires c κs = source-enough (c .before .before .before .before .before .before .before .before .before .before .before .args .sheet) (c .before .before .before .before .before .before .before .before .before .before .before .args .t2) (c .before .before .before .before .before .before .before .before .before .before .before .args .count) (c .before .before .before .before .before .before .before .before .before .before .before .args .start) (c .before .before .before .before .before .before .before .before .before .before .before .args .kind) (c .before .before .before .before .before .before .before .before .before .before .before .args .hour) (c .before .before .before .before .before .before .before .before .before .before .before .args .unit) (c .before .before .before .before .before .before .before .before .before .before .before .args .to) (c .before .before .before .before .before .before .before .before .before .before .before .args .kwh) _ _ _ _ _ (c .before .before .before .before .before .before .before .before .before .before .hour-place .ensures .0) (c .before .before .before .before .before .before .before .before .before .entry-place .ensures .0) (c .before .before .before .before .before .before .before .before .target-of .ensures) (c .before .before .before .before .before .before .before .entry-place2 .ensures .0) (c .before .before .before .limit-at .ensures) (sym (c .before .before .commit-verdict .ensures) ∙ c .enum-told .given .1)
 
--- src/lib.rt:418:13
 mul-after : tie.Need-mul-after
 mul-after c = search needs
 
--- src/lib.rt:418:13
 element-set-from-after : tie.Need-element-set-from-after
 element-set-from-after c = search needs
 
--- src/lib.rt:419:47
 held-then-requires : tie.Need-held-then-requires
-held-then-requires c κs = ?
+held-then-requires c κs =
+    (target-enough (c .before .before .before .before .before .before .before .before .before .before .before .before .args .sheet) (c .before .before .before .before .before .before .before .before .before .before .before .before .args .t2) (c .before .before .before .before .before .before .before .before .before .before .before .before .args .count) (c .before .before .before .before .before .before .before .before .before .before .before .before .args .start) (c .before .before .before .before .before .before .before .before .before .before .before .before .args .kind) (c .before .before .before .before .before .before .before .before .before .before .before .before .args .hour) (c .before .before .before .before .before .before .before .before .before .before .before .before .args .unit) (c .before .before .before .before .before .before .before .before .before .before .before .before .args .to) (c .before .before .before .before .before .before .before .before .before .before .before .before .args .kwh) _ _ _ _ _ (c .before .before .before .before .before .before .before .before .before .before .before .hour-place .ensures .0) (c .before .before .before .before .before .before .before .before .before .before .entry-place .ensures .0) (c .before .before .before .before .before .before .before .before .before .target-of .ensures) (c .before .before .before .before .before .before .before .before .entry-place2 .ensures .0) (c .before .before .before .before .limit-at .ensures) (sym (c .before .before .before .commit-verdict .ensures) ∙ c .before .enum-told .given .1),
+    target-room (c .before .before .before .before .before .before .before .before .before .before .before .before .args .sheet) (c .before .before .before .before .before .before .before .before .before .before .before .before .args .t2) (c .before .before .before .before .before .before .before .before .before .before .before .before .args .count) (c .before .before .before .before .before .before .before .before .before .before .before .before .args .start) (c .before .before .before .before .before .before .before .before .before .before .before .before .args .kind) (c .before .before .before .before .before .before .before .before .before .before .before .before .args .hour) (c .before .before .before .before .before .before .before .before .before .before .before .before .args .unit) (c .before .before .before .before .before .before .before .before .before .before .before .before .args .to) (c .before .before .before .before .before .before .before .before .before .before .before .before .args .kwh) _ _ _ _ _ (c .before .before .before .before .before .before .before .before .before .before .before .hour-place .ensures .0) (c .before .before .before .before .before .before .before .before .before .before .entry-place .ensures .0) (c .before .before .before .before .before .before .before .before .before .target-of .ensures) (c .before .before .before .before .before .before .before .before .entry-place2 .ensures .0) (c .before .before .before .before .limit-at .ensures) (sym (c .before .before .before .commit-verdict .ensures) ∙ c .before .enum-told .given .1) (c .before .before .before .before .limit-at .ok .1 .1 .0 .1))
 
--- src/lib.rt:419:13
 mul-t37 : tie.Need-mul-t37
 mul-t37 c = search needs
 
--- src/lib.rt:419:13
 element-set-from-after-2 : tie.Need-element-set-from-after-2
 element-set-from-after-2 c = search needs
 
--- src/lib.rt:420:13
 changed-requires : tie.Need-changed-requires
 changed-requires c κs = search needs
 
--- src/lib.rt:380:1
 returns : tie.Need-returns
-returns c = ?
+returns c = c .refused .ensures ∙ refused-is (c .before .before .before .before .before .before .before .before .before .before .before .before .before .args .sheet) (c .before .before .before .before .before .before .before .before .before .before .before .before .before .args .t2) (c .before .before .before .before .before .before .before .before .before .before .before .before .before .args .count) (c .before .before .before .before .before .before .before .before .before .before .before .before .before .args .start) (c .before .before .before .before .before .before .before .before .before .before .before .before .before .args .kind) (c .before .before .before .before .before .before .before .before .before .before .before .before .before .args .hour) (c .before .before .before .before .before .before .before .before .before .before .before .before .before .args .unit) (c .before .before .before .before .before .before .before .before .before .before .before .before .before .args .to) (c .before .before .before .before .before .before .before .before .before .before .before .before .before .args .kwh) _ _ _ _ _ (c .before .before .before .before .before .before .before .before .before .before .before .before .hour-place .ensures .0) (c .before .before .before .before .before .before .before .before .before .before .before .entry-place .ensures .0) (c .before .before .before .before .before .before .before .before .before .before .target-of .ensures) (c .before .before .before .before .before .before .before .before .before .entry-place2 .ensures .0) (c .before .before .before .before .before .limit-at .ensures) _ (sym (c .before .before .before .before .commit-verdict .ensures) ∙ c .before .before .verdict .given .1)
 
--- src/lib.rt:380:1
 returns-2 : tie.Need-returns-2
-returns-2 c = ?
+returns-2 c = c .changed .ensures ∙ accepted-is (c .before .before .before .before .before .before .before .before .before .before .before .before .before .before .args .sheet) (c .before .before .before .before .before .before .before .before .before .before .before .before .before .before .args .t2) (c .before .before .before .before .before .before .before .before .before .before .before .before .before .before .args .count) (c .before .before .before .before .before .before .before .before .before .before .before .before .before .before .args .start) (c .before .before .before .before .before .before .before .before .before .before .before .before .before .before .args .kind) (c .before .before .before .before .before .before .before .before .before .before .before .before .before .before .args .hour) (c .before .before .before .before .before .before .before .before .before .before .before .before .before .before .args .unit) (c .before .before .before .before .before .before .before .before .before .before .before .before .before .before .args .to) (c .before .before .before .before .before .before .before .before .before .before .before .before .before .before .args .kwh) _ _ _ _ _ (c .before .before .before .before .before .before .before .before .before .before .before .before .before .hour-place .ensures .0) (c .before .before .before .before .before .before .before .before .before .before .before .before .entry-place .ensures .0) (c .before .before .before .before .before .before .before .before .before .before .before .target-of .ensures) (c .before .before .before .before .before .before .before .before .before .before .entry-place2 .ensures .0) (c .before .before .before .before .before .before .limit-at .ensures) _ _ (c .before .before .left-with .ensures) (c .before .held-then .ensures) (sym (c .before .before .before .before .before .commit-verdict .ensures) ∙ c .before .before .before .enum-told .given .1)
 
 pub decide-commitment-spec : {M : Type 1} → statement M
 decide-commitment-spec =
