@@ -16,6 +16,7 @@ pub mod Whole
 pub mod Promise
 pub mod Ladders
 pub mod Committed
+pub mod Limits
 pub mod Room
 pub mod Well
 pub mod Places

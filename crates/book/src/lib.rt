@@ -1,11 +1,13 @@
 // The calls on the book: what each is refused for, and what an accepted one changes and posts. The functions over the lent journal
 // stand in the crate above; what they post is decided here.
 ghost use mathlib.Core.Path.{_≡_};
-ghost use mathlib.Core.Bool.{true, false, _&&_, _||_};
+ghost use mathlib.Core.Bool.{true, false, cond, _&&_, _||_};
 ghost use lib.Dec.{leb, ltb, eqb};
-ghost use Prim.Native.Nat.{_+_, _^_, _≤_, _<_, min};
-ghost use Rattle.state.specs.Ranges.{bookHolds};
-ghost use Rattle.sheet.specs.Ranges.{sheetHolds};
+ghost use Prim.Native.Nat.{ℕ, _+_, _/_, _%_, _^_, _≤_, _<_, min};
+ghost use lib.ListN.{getD};
+ghost use Rattle.state.specs.Book.{noKwh};
+ghost use Rattle.state.specs.Ranges.{limitOf, limitAt, bookHolds};
+ghost use Rattle.sheet.specs.Ranges.{offerAt, sheetHolds};
 ghost use Rattle.settlement.specs.Ranges.{HourRead};
 ghost use Rattle.book.specs.Calls.{verdict, badHour, unknownUnits, shortOf, isSettled, takeTests, releaseTests, moveTests, noPlan, refusedWith, changedTo, postedWith, voidDecided, recordDecided, settleDecided, restateDecided, requestDecided, bookFits, decided, outcomeOf, plainRequest, recordRequest, requestOf};
 ghost use Rattle.book.specs.Commitments.{hourPlace, entryPlace, commitVerdict, targetOf, leftWith, heldThen, commitmentDecided};
@@ -22,6 +24,7 @@ use postings::Scanned;
 use record::Record;
 use settlement::HourResult;
 use sheet::Sheet;
+use sheet::UnitSheet;
 use state::Book;
 
 // Why a call is refused.
@@ -601,6 +604,37 @@ pub fn commits(kind: u64) -> bool
         return false;
     }
     kind <= 3
+}
+
+// The limits with those of place k's unit in all hours.
+fn with_limits(limits: [HubKwh; 192], k: usize, member: bool, u: UnitSheet) -> [HubKwh; 192]
+    requires { ⌜ k < 8 ⌝ }
+    ensures { λ r. ⌜ ((j : ℕ) → j < 192 → getD r j noKwh ≡ cond (eqb (j % 8) k) (limitOf member (offerAt u (j / 8))) (getD limits j noKwh)) ⌝ }
+{
+    let mut kept = limits;
+    let mut h: usize = 0;
+    while h < 24 {
+        let o = u.offers[h];
+        kept[8 * h + k] = state::limit_of(member, o);
+        h += 1;
+    }
+    kept
+}
+
+// What each commitment may not exceed, by the sheet.
+pub fn limits_of(sheet: Sheet) -> [HubKwh; 192]
+    ensures { λ r. ⌜ ((j : ℕ) → j < 192 → getD r j noKwh ≡ limitAt sheet (j / 8) (j % 8)) ⌝ }
+{
+    let units = sheet.units;
+    let mut limits = [HubKwh(0); 192];
+    let mut k: usize = 0;
+    while k < 8 {
+        let u = sheet.unit[k];
+        let next = with_limits(limits, k, units::member_at(units, k), u);
+        limits = next;
+        k += 1;
+    }
+    limits
 }
 
 // The request's own rows, once the sheet and the book are in their ranges.

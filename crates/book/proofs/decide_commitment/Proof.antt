@@ -61,9 +61,10 @@ element-set-from-after : tie.Need-element-set-from-after
 element-set-from-after c = search needs
 
 held-then-requires : tie.Need-held-then-requires
-held-then-requires c κs =
-    (target-enough (c .before .before .before .before .before .before .before .before .before .before .before .before .args .sheet) (c .before .before .before .before .before .before .before .before .before .before .before .before .args .t2) (c .before .before .before .before .before .before .before .before .before .before .before .before .args .count) (c .before .before .before .before .before .before .before .before .before .before .before .before .args .start) (c .before .before .before .before .before .before .before .before .before .before .before .before .args .kind) (c .before .before .before .before .before .before .before .before .before .before .before .before .args .hour) (c .before .before .before .before .before .before .before .before .before .before .before .before .args .unit) (c .before .before .before .before .before .before .before .before .before .before .before .before .args .to) (c .before .before .before .before .before .before .before .before .before .before .before .before .args .kwh) _ _ _ _ _ (c .before .before .before .before .before .before .before .before .before .before .before .hour-place .ensures .0) (c .before .before .before .before .before .before .before .before .before .before .entry-place .ensures .0) (c .before .before .before .before .before .before .before .before .before .target-of .ensures) (c .before .before .before .before .before .before .before .before .entry-place2 .ensures .0) (c .before .before .before .before .limit-at .ensures) (sym (c .before .before .before .commit-verdict .ensures) ∙ c .before .enum-told .given .1),
-    target-room (c .before .before .before .before .before .before .before .before .before .before .before .before .args .sheet) (c .before .before .before .before .before .before .before .before .before .before .before .before .args .t2) (c .before .before .before .before .before .before .before .before .before .before .before .before .args .count) (c .before .before .before .before .before .before .before .before .before .before .before .before .args .start) (c .before .before .before .before .before .before .before .before .before .before .before .before .args .kind) (c .before .before .before .before .before .before .before .before .before .before .before .before .args .hour) (c .before .before .before .before .before .before .before .before .before .before .before .before .args .unit) (c .before .before .before .before .before .before .before .before .before .before .before .before .args .to) (c .before .before .before .before .before .before .before .before .before .before .before .before .args .kwh) _ _ _ _ _ (c .before .before .before .before .before .before .before .before .before .before .before .hour-place .ensures .0) (c .before .before .before .before .before .before .before .before .before .before .entry-place .ensures .0) (c .before .before .before .before .before .before .before .before .before .target-of .ensures) (c .before .before .before .before .before .before .before .before .entry-place2 .ensures .0) (c .before .before .before .before .limit-at .ensures) (sym (c .before .before .before .commit-verdict .ensures) ∙ c .before .enum-told .given .1) (c .before .before .before .before .limit-at .ok .1 .1 .0 .1))
+held-then-requires c κs = (
+  target-enough (c .before .before .before .before .before .before .before .before .before .before .before .before .args .sheet) (c .before .before .before .before .before .before .before .before .before .before .before .before .args .t2) (c .before .before .before .before .before .before .before .before .before .before .before .before .args .count) (c .before .before .before .before .before .before .before .before .before .before .before .before .args .start) (c .before .before .before .before .before .before .before .before .before .before .before .before .args .kind) (c .before .before .before .before .before .before .before .before .before .before .before .before .args .hour) (c .before .before .before .before .before .before .before .before .before .before .before .before .args .unit) (c .before .before .before .before .before .before .before .before .before .before .before .before .args .to) (c .before .before .before .before .before .before .before .before .before .before .before .before .args .kwh) _ _ _ _ _ (c .before .before .before .before .before .before .before .before .before .before .before .hour-place .ensures .0) (c .before .before .before .before .before .before .before .before .before .before .entry-place .ensures .0) (c .before .before .before .before .before .before .before .before .before .target-of .ensures) (c .before .before .before .before .before .before .before .before .entry-place2 .ensures .0) (c .before .before .before .before .limit-at .ensures) (sym (c .before .before .before .commit-verdict .ensures) ∙ c .before .enum-told .given .1),
+  target-room (c .before .before .before .before .before .before .before .before .before .before .before .before .args .sheet) (c .before .before .before .before .before .before .before .before .before .before .before .before .args .t2) (c .before .before .before .before .before .before .before .before .before .before .before .before .args .count) (c .before .before .before .before .before .before .before .before .before .before .before .before .args .start) (c .before .before .before .before .before .before .before .before .before .before .before .before .args .kind) (c .before .before .before .before .before .before .before .before .before .before .before .before .args .hour) (c .before .before .before .before .before .before .before .before .before .before .before .before .args .unit) (c .before .before .before .before .before .before .before .before .before .before .before .before .args .to) (c .before .before .before .before .before .before .before .before .before .before .before .before .args .kwh) _ _ _ _ _ (c .before .before .before .before .before .before .before .before .before .before .before .hour-place .ensures .0) (c .before .before .before .before .before .before .before .before .before .before .entry-place .ensures .0) (c .before .before .before .before .before .before .before .before .before .target-of .ensures) (c .before .before .before .before .before .before .before .before .entry-place2 .ensures .0) (c .before .before .before .before .limit-at .ensures) (sym (c .before .before .before .commit-verdict .ensures) ∙ c .before .enum-told .given .1) (c .before .before .before .before .limit-at .ok .1 .1 .0 .1),
+)
 
 mul-t37 : tie.Need-mul-t37
 mul-t37 c = search needs
