@@ -22,10 +22,13 @@ use Rattle.state.specs.Ranges.{limitAt}
 use Rattle.book.specs.declared.Refusal.{Refusal}
 use Rattle.book.specs.declared.Verdict.{Verdict}
 use Rattle.book.specs.declared.Verdict.the-variants.{Accepted, Refused}
+use Rattle.book.specs.declared.Asked.{Asked}
+use Rattle.book.specs.declared.Shift.{Shift}
 use Rattle.book.specs.declared.Request.{Request}
 use Rattle.book.specs.declared.Decision.{Decision}
 use Rattle.book.specs.Calls.{Row, row, verdict, badHour, unknownUnits, isSettled, heldKwh, lastKwh, withHeld, takeTests, releaseTests, moveTests, byVerdict, changedTo, refusedWith, requestRows, acceptedIn, requestDecided}
-use Rattle.book.specs.Commitments.{hourPlace, entryPlace, targetOf, commitVerdict, leftWith, heldThen, shifted, committedBook, commitmentDecided}
+use Rattle.book.specs.Numbers.{refusalNumber}
+use Rattle.book.specs.Commitments.{hourPlace, entryPlace, targetOf, commitVerdict, leftWith, heldThen, shifted, committedBook, shiftOf, commitmentDecided}
 use Rattle.book.proofs.Places.{passed}
 use Rattle.book.proofs.Room.{from-known, to-known}
 
@@ -260,3 +263,18 @@ module _ (s : Sheet) (b : Book) (count start kind hour unit to kwh : ℕ) (h fro
   target-room e l k2 =
       let r = verdict-told kind (s .units) hour unit to kwh (eqb (getD (b .mark) h 0) settledMark) _ _ _ e .room k2 in
       omega (arith, r, l)
+
+-- a take, release or move by its parts
+module _ (units : ℕ) (a : Asked) (settled : Bool) (source held last : HubKwh) where
+  abbrev asked-verdict : Verdict
+  asked-verdict = commitVerdict (a .kind) units (a .hour) (a .unit) (a .to) (a .kwh) settled (source .0) (held .0) (last .0)
+
+  pub shift-refused : (holds : Bool) (r : Refusal) (n : ℕ) → n ≡ refusalNumber r → asked-verdict ≡ Refused r → holds ≡ true
+      → _≡_ {A = Shift} (record { number = n; from = source; to = held }) (shiftOf holds units a settled source held last)
+  unfolding shiftOf
+  shift-refused holds r n n-is e t = rw (t, e, n-is) refl
+
+  pub shift-accepted : (holds : Bool) (x y : ℕ) → x ≡ leftWith (a .kind) (source .0) (a .kwh) → y ≡ heldThen (a .kind) (held .0) (a .kwh) → asked-verdict ≡ Accepted → holds ≡ true
+      → _≡_ {A = Shift} (record { number = 0; from = record { 0 = x }; to = record { 0 = y } }) (shiftOf holds units a settled source held last)
+  unfolding shiftOf
+  shift-accepted holds x y x-is y-is e t = rw (t, e, x-is, y-is) refl

@@ -12,7 +12,12 @@ use Rattle.state.specs.Book.{noKwh, settledMark}
 use Rattle.state.specs.Ranges.{limitAt}
 use Rattle.state.specs.Sizes.{entryOf}
 use Rattle.book.specs.declared.Verdict.{Verdict}
+use Rattle.book.specs.declared.Verdict.the-variants.{Accepted, Refused}
+use Rattle.book.specs.declared.Refusal.the-variants.{SheetRange}
+use Rattle.book.specs.declared.Asked.{Asked}
+use Rattle.book.specs.declared.Shift.{Shift}
 use Rattle.book.specs.declared.Decision.{Decision}
+use Rattle.book.specs.Numbers.{refusalNumber}
 use Rattle.book.specs.Calls.{verdict, badHour, takeTests, releaseTests, moveTests, byVerdict, changedTo, refusedWith}
 
 -- where an hour, and an hour's unit, stand in the book; 0 for one that is none
@@ -49,6 +54,18 @@ shifted l kind hour unit to kwh =
 abbrev pub committedBook : Book → (kind hour unit to kwh : ℕ) → Book
 committedBook b kind hour unit to kwh =
     record { commitment = shifted (b .commitment) kind hour unit to kwh; mark = b .mark; energy = b .energy; amounts = b .amounts }
+
+-- the same by its refusal's number: 9 before the others; a refused one changes neither commitment
+abbrev pub shiftBy : Verdict → (kind kwh : ℕ) → (source held : HubKwh) → Shift
+shiftBy Accepted kind kwh source held =
+    record { number = 0; from = record { 0 = leftWith kind (source .0) kwh }; to = record { 0 = heldThen kind (held .0) kwh } }
+shiftBy (Refused r) kind kwh source held = record { number = refusalNumber r; from = source; to = held }
+
+unfoldable pub shiftOf : Bool → (units : ℕ) → Asked → (settled : Bool) → (source held last : HubKwh) → Shift
+shiftOf holds units a settled source held last =
+    cond holds
+    (shiftBy (commitVerdict (a .kind) units (a .hour) (a .unit) (a .to) (a .kwh) settled (source .0) (held .0) (last .0)) (a .kind) (a .kwh) source held)
+    (record { number = refusalNumber SheetRange; from = source; to = held })
 
 -- what a take, release or move comes to on a book
 unfoldable pub commitmentDecided : Sheet → Book → (count start kind hour unit to kwh : ℕ) → Decision

@@ -10,7 +10,7 @@ ghost use Rattle.state.specs.Ranges.{limitOf, limitAt, bookHolds};
 ghost use Rattle.sheet.specs.Ranges.{offerAt, sheetHolds};
 ghost use Rattle.settlement.specs.Ranges.{HourRead};
 ghost use Rattle.book.specs.Calls.{verdict, badHour, unknownUnits, shortOf, isSettled, takeTests, releaseTests, moveTests, noPlan, refusedWith, changedTo, postedWith, voidDecided, recordDecided, settleDecided, restateDecided, requestDecided, bookFits, decided, outcomeOf, plainRequest, recordRequest, requestOf};
-ghost use Rattle.book.specs.Commitments.{hourPlace, entryPlace, commitVerdict, targetOf, leftWith, heldThen, commitmentDecided};
+ghost use Rattle.book.specs.Commitments.{hourPlace, entryPlace, commitVerdict, targetOf, leftWith, heldThen, shiftOf, commitmentDecided};
 ghost use Rattle.book.specs.Ledger.{void};
 ghost use Rattle.book.specs.Numbers.{refusalNumber, refusalLine, numberOf, lineOf, postedOf};
 ghost use Rattle.book.specs.Total.{noTotal, totalDecided};
@@ -125,6 +125,13 @@ pub struct Outcome {
 pub struct TotalAnswer {
     pub verdict: Verdict,
     pub sum: i64,
+}
+
+// A take, release or move carried out: the number of its refusal or 0, and what the units that give and get hold then.
+pub struct Shift {
+    pub number: u64,
+    pub from: HubKwh,
+    pub to: HubKwh,
 }
 
 fn no_plan() -> Plan
@@ -377,6 +384,54 @@ pub fn held_then(kind: u64, held: u64, kwh: u64) -> u64
         return held - kwh;
     }
     held + kwh
+}
+
+// A take, release or move, where the book is known to be in its ranges and `holds` says whether the sheet is.
+pub fn shift_of(
+    holds: bool,
+    units: u64,
+    asked: Asked,
+    settled: bool,
+    source: HubKwh,
+    held: HubKwh,
+    last: HubKwh,
+) -> Shift
+    requires { ⌜ (eqb (asked .kind) 2 ≡ true → source ≡ held) ⌝ }
+    ensures { λ r. ⌜ r ≡ shiftOf holds units asked settled source held last ⌝ }
+{
+    let kind = asked.kind;
+    let kwh = asked.kwh;
+    if !holds {
+        return Shift {
+            number: 9,
+            from: source,
+            to: held,
+        };
+    }
+    let verdict = commit_verdict(
+        kind,
+        units,
+        asked.hour,
+        asked.unit,
+        asked.to,
+        kwh,
+        settled,
+        source.0,
+        held.0,
+        last.0,
+    );
+    match verdict {
+        Verdict::Refused(refusal) => Shift {
+            number: refusal_number(refusal),
+            from: source,
+            to: held,
+        },
+        Verdict::Accepted => Shift {
+            number: 0,
+            from: HubKwh(left_with(kind, source.0, kwh)),
+            to: HubKwh(held_then(kind, held.0, kwh)),
+        },
+    }
 }
 
 // A take, release or move.

@@ -44,11 +44,12 @@ loop-less c = search needs
 loop-again : tie.Need-loop-again Inv-loop μ-loop
 loop-again c =
     let s = c .before .before .before .before .before .args .t1 in
-    let l = c .before .before .before .before .loop in
-    (refl,
-    omega arith,
-    tabled-next s (l .k) (l .limits) (c .with-limits .result) (l .inv .2)
-    (λ j b. c .with-limits .ensures j b ∙ ap (λ (m : Bool). cond (eqb (j % 8) (l .k)) (limitOf m (offerAt (unitAt (s .unit) (l .k)) (j / 8))) (getD (l .limits) j noKwh)) (c .before .member-at .ensures)))
+    let l = c .before .before .before .before .loop in (
+      refl,
+      omega arith,
+      tabled-next s (l .k) (l .limits) (c .with-limits .result) (l .inv .2)
+          (λ j b. c .with-limits .ensures j b ∙ ap (λ (m : Bool). cond (eqb (j % 8) (l .k)) (limitOf m (offerAt (unitAt (s .unit) (l .k)) (j / 8))) (getD (l .limits) j noKwh)) (c .before .member-at .ensures)),
+    )
 
 returns : tie.Need-returns Inv-loop μ-loop
 returns c =

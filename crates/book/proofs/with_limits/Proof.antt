@@ -49,10 +49,11 @@ loop-again : tie.Need-loop-again Inv-loop μ-loop
 loop-again c =
     let a = c .before .before .before .before .args in
     let l = c .before .before .before .loop in
-    let below : l .h < 24 = omega arith in
-    (omega arith,
-    limited-next (a .k) (a .member) (a .t4) (a .limits) (l .h) (l .kept) (c .limit-of .result) (c .before .before .before .before .pre) below (c .limit-of .ensures) (l .inv .1)
-    (length-set (l .kept) _ _ ∙ l .inv .1 .long))
+    let below : l .h < 24 = omega arith in (
+      omega arith,
+      limited-next (a .k) (a .member) (a .t4) (a .limits) (l .h) (l .kept) (c .limit-of .result) (c .before .before .before .before .pre) below (c .limit-of .ensures) (l .inv .1)
+          (length-set (l .kept) _ _ ∙ l .inv .1 .long),
+    )
 
 returns : tie.Need-returns Inv-loop μ-loop
 returns c =
