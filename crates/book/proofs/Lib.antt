@@ -17,6 +17,7 @@ pub mod Promise
 pub mod Ladders
 pub mod Committed
 pub mod Limits
+pub mod Carried
 pub mod Room
 pub mod Well
 pub mod Places
