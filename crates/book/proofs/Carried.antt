@@ -28,7 +28,7 @@ use Rattle.book.specs.declared.Decision.{Decision}
 use Rattle.book.specs.Numbers.{refusalLine, numberOf, lineOf, postedOf}
 use Rattle.book.specs.Calls.{Row, verdict, takeTests, releaseTests, moveTests, byVerdict, changedTo, refusedWith, bookFits, requestDecided, decided, plainRequest, requestOf}
 use Rattle.book.specs.Requests.{callFor}
-use Rattle.book.specs.Commitments.{hourPlace, entryPlace, targetOf, commitVerdict, committedBook, shiftBy, shiftOf, commitmentDecided}
+use Rattle.book.specs.Commitments.{hourPlace, entryPlace, targetOf, commitVerdict, committedBook, shiftBy, shiftOf, shiftIn, bookWith, commitmentDecided}
 use Rattle.book.proofs.Ladders.{decided-9, decided-on}
 use Rattle.book.proofs.Committed.{commitment-is}
 
@@ -115,11 +115,7 @@ module _ (s : Sheet) (b : Book) (count places : ℕ) (posted : Bool) (text : Lis
   settled = eqb (getD (b .mark) (hourPlace (a .hour)) 0) settledMark
 
   abbrev shift : Shift
-  shift = shiftOf (sheetHolds s) (s .units) a settled source held last
-
-  -- the book with the commitments of a shift
-  abbrev stored : Shift → Book
-  stored h = record { commitment = set (set (b .commitment) from (h .from)) target (h .to); mark = b .mark; energy = b .energy; amounts = b .amounts }
+  shift = shiftIn s b a
 
   unchanged : b ≡ record { commitment = set (set (b .commitment) from source) target held; mark = b .mark; energy = b .energy; amounts = b .amounts }
   unchanged =
@@ -129,18 +125,18 @@ module _ (s : Sheet) (b : Book) (count places : ℕ) (posted : Bool) (text : Lis
   -- by the verdict of its rows
   by-verdict : (v : Verdict) → line-in v ≡ 0
       → Carried (byVerdict v (changedTo (committedBook b (a .kind) (a .hour) (a .unit) (a .to) (a .kwh)) count) (refusedWith b count 0))
-      (stored (shiftBy v (a .kind) (a .kwh) source held)) count (shiftBy v (a .kind) (a .kwh) source held .number)
+      (bookWith b a (shiftBy v (a .kind) (a .kwh) source held)) count (shiftBy v (a .kind) (a .kwh) source held .number)
   by-verdict Accepted e = record { book-is = refl; number-is = refl; no-line = refl; none-posted = refl; no-place = refl; same-count = refl; no-rows = refl }
   by-verdict (Refused r) e = record { book-is = unchanged; number-is = refl; no-line = e; none-posted = refl; no-place = refl; same-count = refl; no-rows = refl }
 
-  decided-carried : sheetHolds s ≡ true → Carried (commitmentDecided s b count 0 (a .kind) (a .hour) (a .unit) (a .to) (a .kwh)) (stored shift) count (shift .number)
+  decided-carried : sheetHolds s ≡ true → Carried (commitmentDecided s b count 0 (a .kind) (a .hour) (a .unit) (a .to) (a .kwh)) (bookWith b a shift) count (shift .number)
   unfolding commitmentDecided shiftOf
   decided-carried t =
       rw t
       (by-verdict (commitVerdict (a .kind) (s .units) (a .hour) (a .unit) (a .to) (a .kwh) settled (source .0) (held .0) (last .0))
       (verdict-line (a .kind) (s .units) (a .hour) (a .unit) (a .to) (a .kwh) settled (source .0) (held .0) (last .0)))
 
-  sheet-carried : sheetHolds s ≡ false → Carried (refusedWith b count 0 SheetRange) (stored shift) count (shift .number)
+  sheet-carried : sheetHolds s ≡ false → Carried (refusedWith b count 0 SheetRange) (bookWith b a shift) count (shift .number)
   unfolding shiftOf
   sheet-carried t =
       rw t (record { book-is = unchanged; number-is = refl; no-line = refl; none-posted = refl; no-place = refl; same-count = refl; no-rows = refl })
@@ -180,13 +176,13 @@ module _ (s : Sheet) (b : Book) (count places : ℕ) (posted : Bool) (text : Lis
       ∙ (commitment-is s b (plain 3 (a .to)) count places refl ∙ sym (rw (x, y, z) refl))
 
   pub carried : (leb 1 (a .kind) && leb (a .kind) 3) ≡ true → (sheetHolds s ≡ true → bookFits s b count places posted ≡ true)
-      → Carried (decided s b q count places posted) (stored shift) count (shift .number)
+      → Carried (decided s b q count places posted) (bookWith b a shift) count (shift .number)
   carried e fits = by (sheetHolds s) refl
     where
-      by : (t : Bool) → sheetHolds s ≡ t → Carried (decided s b q count places posted) (stored shift) count (shift .number)
+      by : (t : Bool) → sheetHolds s ≡ t → Carried (decided s b q count places posted) (bookWith b a shift) count (shift .number)
       by true t =
-          subst (λ (d : Decision). Carried d (stored shift) count (shift .number))
+          subst (λ (d : Decision). Carried d (bookWith b a shift) count (shift .number))
           (request-decided (kind-of (a .kind) e) ∙ decided-on s b q count places posted t (fits t)) (decided-carried t)
       by false t =
-          subst (λ (d : Decision). Carried d (stored shift) count (shift .number))
+          subst (λ (d : Decision). Carried d (bookWith b a shift) count (shift .number))
           (ap (λ (n : ℕ). refusedWith b count n SheetRange) (sym (request-start (kind-of (a .kind) e))) ∙ decided-9 s b q count places posted t) (sheet-carried t)

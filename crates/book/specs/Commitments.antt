@@ -6,6 +6,7 @@ use mathlib.Core.List.{List}
 use lib.Dec.{ltb, eqb}
 use lib.ListN.{getD, set}
 use Rattle.energy.specs.declared.HubKwh.{HubKwh}
+use Rattle.sheet.specs.Ranges.{sheetHolds}
 use Rattle.state.specs.declared.Book.{Book}
 use Rattle.sheet.specs.declared.Sheet.{Sheet}
 use Rattle.state.specs.Book.{noKwh, settledMark}
@@ -66,6 +67,22 @@ shiftOf holds units a settled source held last =
     cond holds
     (shiftBy (commitVerdict (a .kind) units (a .hour) (a .unit) (a .to) (a .kwh) settled (source .0) (held .0) (last .0)) (a .kind) (a .kwh) source held)
     (record { number = refusalNumber SheetRange; from = source; to = held })
+
+-- the same on a book, and the book then
+abbrev pub shiftIn : Sheet → Book → Asked → Shift
+shiftIn s b a =
+    let target = entryPlace (a .hour) (targetOf (a .kind) (a .unit) (a .to)) in
+    shiftOf (sheetHolds s) (s .units) a (eqb (getD (b .mark) (hourPlace (a .hour)) 0) settledMark) (getD (b .commitment) (entryPlace (a .hour) (a .unit)) noKwh)
+    (getD (b .commitment) target noKwh) (limitAt s (target / 8) (target % 8))
+
+abbrev pub bookWith : Book → Asked → Shift → Book
+bookWith b a h =
+    record {
+      commitment = set (set (b .commitment) (entryPlace (a .hour) (a .unit)) (h .from)) (entryPlace (a .hour) (targetOf (a .kind) (a .unit) (a .to))) (h .to);
+      mark = b .mark;
+      energy = b .energy;
+      amounts = b .amounts;
+    }
 
 -- what a take, release or move comes to on a book
 unfoldable pub commitmentDecided : Sheet → Book → (count start kind hour unit to kwh : ℕ) → Decision

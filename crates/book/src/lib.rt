@@ -134,7 +134,7 @@ pub struct Shift {
     pub to: HubKwh,
 }
 
-fn no_plan() -> Plan
+pub fn no_plan() -> Plan
     ensures { λ r. ⌜ r ≡ noPlan ⌝ }
 {
     Plan {

@@ -126,7 +126,7 @@ module _ (sheet : Sheet) (calls text : List ℕ) (journal : List Posting) (answe
   unfolding tabulate
   by-more k = ran-further sheet (callAt calls text k) (begun journal) (callsIn calls text k)
 
-  states : (k : ℕ) → stateOf (ranTo k) ≡ ranBy k .state
+  pub states : (k : ℕ) → stateOf (ranTo k) ≡ ranBy k .state
   unfolding ranAll ranFrom tabulate
   states zero = refl
   states (suc k) =

@@ -25,11 +25,12 @@ startRan = record { book = emptyBook; count = 0 }
 abbrev pub answerNumbers : ℕ
 answerNumbers = 4
 
+abbrev pub replied : List ℕ → ℕ → (number line posted place : ℕ) → List ℕ
+replied l i number line posted place =
+    cond (ltb i (length l / answerNumbers)) (set (set (set (set l (4 * i) number) (4 * i + 1) line) (4 * i + 2) posted) (4 * i + 3) place) l
+
 unfoldable pub answered : List ℕ → ℕ → Outcome → List ℕ
-answered l i o =
-    cond (ltb i (length l / answerNumbers))
-    (set (set (set (set l (4 * i) (numberOf (o .answer))) (4 * i + 1) (lineOf (o .answer))) (4 * i + 2) (postedOf (o .answer))) (4 * i + 3) (o .place))
-    l
+answered l i o = replied l i (numberOf (o .answer)) (lineOf (o .answer)) (postedOf (o .answer)) (o .place)
 
 -- an answer read back from its places, and the first n of them
 abbrev pub replyIn : List ℕ → ℕ → Reply

@@ -10,8 +10,8 @@ ghost use Rattle.book.specs.Total.{totalOn};
 ghost use Rattle.book.specs.Requests.{takeRequest, releaseRequest, moveRequest, settleRequest, restateRequest, voidRequest, callFor, callsIn};
 ghost use Rattle.book.specs.Demand.{Demand};
 ghost use Rattle.journal.specs.Journal.{scannedIn, posted, Performed, performed};
-ghost use Rattle.journal.specs.Run.{Running, startRan, turnsOf, handedOn, answered, repliesIn, ranAll};
-ghost use Rattle.journal.specs.Stands.{startStand, ranOf, listAt, Stands, Due};
+ghost use Rattle.journal.specs.Run.{Running, startRan, turnsOf, replied, repliesIn, ranAll};
+ghost use Rattle.journal.specs.Stands.{startStand, ranOf, listAt, Stands, Due, AllCommit, Commits};
 use book::Asked;
 use book::Outcome;
 use book::Request;
@@ -221,7 +221,87 @@ fn turns(calls: usize, answers: usize) -> usize
     room
 }
 
-// The calls from the next one on, up to one that is no take, release or move; that one is carried out too. What it posts is not appended yet.
+// The four numbers of answer i, where there are places for them.
+fn reply(answers: &mut [u64], i: usize, number: u64, line: u64, posted: u64, place: u64)
+    ensures { λ _. ⌜ now (answers .exit) ≡ replied (now (answers .entry)) i number line posted place ⌝ }
+{
+    if i < answers.len() / 4 {
+        let at = 4 * i;
+        answers[at] = number;
+        answers[at + 1] = line;
+        answers[at + 2] = posted;
+        answers[at + 3] = place;
+    }
+}
+
+// Where the takes, releases and moves from call `from` on end, at n at the latest.
+fn commits_end(calls: &[u64], from: usize, n: usize) -> usize
+    ensures { λ r. ⌜ (from ≤ n → (from ≤ r) × (r ≤ n)) × AllCommit (now (calls .entry)) from r ⌝ }
+{
+    let mut i = from;
+    while i < n {
+        let asked = book::asked_at(calls, i);
+        if !book::commits(asked.kind) {
+            return i;
+        }
+        i += 1;
+    }
+    i
+}
+
+// The calls up to `end`, all of them takes, releases and moves, carried out in place.
+fn committed(sheet: Sheet, calls: &[u64], answers: &mut [u64], end: usize, stand: Stand) -> Stand
+    requires { ⌜ (stand .next ≤ end) × AllCommit (now calls) (stand .next) end ⌝ }
+    ensures { λ r. ⌜ Commits sheet (now (calls .entry)) (now (answers .entry)) (now (answers .exit)) stand r ⌝ }
+    ensures { λ r. ⌜ r .next ≡ end ⌝ }
+{
+    let units = sheet.units;
+    let limits = book::limits_of(sheet);
+    let holds = stand.holds;
+    let mut book = stand.book;
+    let mut i = stand.next;
+    while i < end {
+        let asked = book::asked_at(calls, i);
+        let kind = asked.kind;
+        let hour = asked.hour;
+        let unit = asked.unit;
+        let h = book::hour_place(hour);
+        let from = book::entry_place(hour, unit);
+        let target = book::entry_place(hour, book::target_of(kind, unit, asked.to));
+        let settled = book.mark[h] == 1;
+        let source = book.commitment[from];
+        let held = book.commitment[target];
+        let last = limits[target];
+        let shift = book::shift_of(holds, units, asked, settled, source, held, last);
+        let left = shift.from;
+        let then = shift.to;
+        book.commitment[from] = left;
+        book.commitment[target] = then;
+        reply(answers, i, shift.number, 0, 0, 0);
+        i += 1;
+    }
+    Stand {
+        book,
+        count: stand.count,
+        next: i,
+        holds,
+    }
+}
+
+// The takes, releases and moves from the next call on.
+fn commitments(sheet: Sheet, calls: &[u64], answers: &mut [u64], n: usize, stand: Stand) -> Stand
+    requires { ⌜ stand .next ≤ n ⌝ }
+    ensures { λ r. ⌜ Commits sheet (now (calls .entry)) (now (answers .entry)) (now (answers .exit)) stand r ⌝ }
+    ensures { λ r. ⌜ (stand .next ≤ r .next) × (r .next ≤ n) ⌝ }
+{
+    let end = commits_end(calls, stand.next, n);
+    if end <= stand.next {
+        return stand;
+    }
+    committed(sheet, calls, answers, end, stand)
+}
+
+// The takes, releases and moves from the next call on, and the call after them, if one is left. What that one posts is not appended yet.
 fn go_on(
     sheet: Sheet,
     calls: &[u64],
@@ -236,11 +316,28 @@ fn go_on(
     ensures { λ r. ⌜ (r .n ≤ 40) × (r .n ≤ places - r .at) ⌝ }
     ensures { λ r. ⌜ (stand .next < r .stand .next) × (r .stand .next ≤ n) ⌝ }
 {
-    let i = stand.next;
-    let count = stand.count;
-    let book = stand.book;
+    let before = commitments(sheet, calls, answers, n, stand);
+    let i = before.next;
+    if n <= i {
+        return Step {
+            plan: book::no_plan(),
+            at: 0,
+            n: 0,
+            stand: before,
+        };
+    }
+    let book = before.book;
     let request = book::request_at(sheet, calls, text, i);
-    let d = book::decide(sheet, book, request, count, places, true);
+    let d = book::decide_known(sheet, before.holds, book, request, before.count, places);
+    let answer = d.answer;
+    reply(
+        answers,
+        i,
+        book::number_of(answer),
+        book::line_of(answer),
+        book::posted_of(answer),
+        d.place,
+    );
     let plan = d.plan;
     let after = d.book;
     Step {
@@ -251,7 +348,7 @@ fn go_on(
             book: after,
             count: d.count,
             next: i + 1,
-            holds: stand.holds,
+            holds: before.holds,
         },
     }
 }
