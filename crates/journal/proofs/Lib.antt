@@ -7,3 +7,4 @@ pub mod Listed
 pub mod Params
 pub mod Thin
 pub mod Stood
+pub mod Going

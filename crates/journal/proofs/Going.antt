@@ -1,0 +1,174 @@
+-- A list of calls goes on: along it 12 does not hold, by the promise about every list, so a call that is decided without 12 is the call of the
+-- definition. A take, release or move leaves the list of places as it is.
+-- Assumes nothing.
+use mathlib.Core.Path.{_≡_, refl, sym, ap, ap₂, _∙_, subst}
+use mathlib.Core.Bool.{Bool, true, false, _&&_}
+use mathlib.Core.List.{List}
+use Prim.Native.Nat.{ℕ, suc, _+_, _/_, _%_, _≤_, _<_}
+use native.Mathlib.Numerals.{add-one}
+use native.Mathlib.Omega.{arith}
+use borrow.Author.Tests.{eqb-true, ne-eqb}
+use lib.Dec.{leb, eqb}
+use lib.ListN.{length, getD, set, take}
+use lib.Seq.{paste, paste-zero}
+use Rattle.energy.specs.declared.HubKwh.{HubKwh}
+use Rattle.sheet.specs.declared.Sheet.{Sheet}
+use Rattle.sheet.specs.Ranges.{sheetHolds}
+use Rattle.state.specs.declared.Book.{Book}
+use Rattle.state.specs.Book.{noKwh, settledMark}
+use Rattle.state.specs.Ranges.{limitAt}
+use Rattle.postings.specs.declared.Posting.{Posting}
+use Rattle.postings.specs.Journal.{postedHold}
+use Rattle.book.specs.declared.Asked.{Asked}
+use Rattle.book.specs.declared.Shift.{Shift}
+use Rattle.book.specs.declared.Decision.{Decision}
+use Rattle.book.specs.Calls.{State, bookFits, decided, decidedOn, requestOf, outcomeOf, journalAfter}
+use Rattle.book.specs.Requests.{askedAt, callFor, callAt, requestAt, callsIn}
+use Rattle.book.specs.Commitments.{hourPlace, entryPlace, targetOf, shiftOf, shiftIn, bookWith}
+use Rattle.book.proofs.Promise.{promise}
+use Rattle.book.proofs.Carried.{Carried, carried}
+use Rattle.journal.specs.declared.Ran.{Ran}
+use Rattle.journal.specs.declared.Stand.{Stand}
+use Rattle.journal.specs.Journal.{performed}
+use Rattle.journal.specs.Run.{Running, replied, answered, stateOf, performedAt, turned, ranAll}
+use Rattle.journal.specs.Stands.{ranOf, begunWith, listAt, Stands, Commits}
+use Rattle.journal.proofs.Listed.{states}
+
+-- what the next calls leave after what the first ones left
+pub commits-then : (sheet : Sheet) (calls x y z : List ℕ) (a b c : Stand) → Commits sheet calls x y a b → Commits sheet calls y z b c → Commits sheet calls x z a c
+commits-then sheet calls x y z a b c f g text journal first s =
+    let t = f text journal first s in
+    let u = g text journal first (t .0) in
+    (u .0, u .1 ∙ t .1)
+
+pub commits-none : (sheet : Sheet) (calls x : List ℕ) (a : Stand) → Commits sheet calls x x a a
+commits-none sheet calls x a text journal first s = (s, refl)
+
+module _ (sheet : Sheet) (calls text : List ℕ) (journal : List Posting) (first : List ℕ) where
+  abbrev at : ℕ → Running
+  at k = ranAll sheet calls text (begunWith journal first) k
+
+  -- 12 does not hold
+  pub in-ranges : (k : ℕ)
+      → bookFits sheet (at k .ran .book) (at k .ran .count) (length (at k .list)) (postedHold (take (at k .ran .count) (at k .list))) ≡ true
+  in-ranges k =
+      subst (λ (st : State). bookFits sheet (st .book) (st .count) (length (st .journal)) (postedHold (take (st .count) (st .journal))) ≡ true)
+      (sym (states sheet calls text journal first k)) (promise sheet journal (callsIn calls text k) .in-ranges)
+
+  abbrev decided-at : ℕ → Decision
+  decided-at k = decidedOn sheet (stateOf (at k)) (requestOf sheet (callFor text (askedAt calls k)))
+
+  next-ran : (k : ℕ) → at (suc k) .ran ≡ record { book = decided-at k .book; count = decided-at k .count }
+  unfolding ranAll turned performed requestAt callAt
+  next-ran k = refl
+
+  next-answers : (k : ℕ) → at (suc k) .answers ≡ answered (at k .answers) k (outcomeOf (decided-at k))
+  unfolding ranAll turned performed requestAt callAt
+  next-answers k = refl
+
+  next-list : (k : ℕ) → at (suc k) .list ≡ journalAfter (at k .list) (decided-at k)
+  unfolding ranAll turned performed requestAt callAt
+  next-list k = refl
+
+  -- a take, release or move is call k
+  module _ (k : ℕ) (commits : (leb 1 (askedAt calls k .kind) && leb (askedAt calls k .kind) 3) ≡ true) where
+    abbrev a : Asked
+    a = askedAt calls k
+
+    shift-carried : Carried (decided-at k) (bookWith (at k .ran .book) a (shiftIn sheet (at k .ran .book) a)) (at k .ran .count) (shiftIn sheet (at k .ran .book) a .number)
+    shift-carried = carried sheet (at k .ran .book) (at k .ran .count) (length (at k .list)) (postedHold (take (at k .ran .count) (at k .list))) text a commits (λ t. in-ranges k)
+
+    commit-ran : at (suc k) .ran ≡ record { book = bookWith (at k .ran .book) a (shiftIn sheet (at k .ran .book) a); count = at k .ran .count }
+    commit-ran =
+        next-ran k ∙ ap₂ (λ (b : Book) (c : ℕ). record { book = b; count = c }) (shift-carried .book-is) (shift-carried .same-count)
+
+    commit-answers : at (suc k) .answers ≡ replied (at k .answers) k (shiftIn sheet (at k .ran .book) a .number) 0 0 0
+    unfolding answered
+    commit-answers =
+        next-answers k
+        ∙ (λ i. replied (at k .answers) k (shift-carried .number-is i) (shift-carried .no-line i) (shift-carried .none-posted i) (shift-carried .no-place i))
+
+    commit-list : at (suc k) .list ≡ at k .list
+    commit-list =
+        next-list k
+        ∙ (ap (λ (n : ℕ). paste (at k .list) (decided-at k .at) (decided-at k .plan .row) n) (shift-carried .no-rows)
+        ∙ sym (paste-zero (at k .list) (decided-at k .at) (decided-at k .plan .row)))
+
+-- the same of what stands
+module _ (sheet : Sheet) (calls answers : List ℕ) (st : Stand) (commits : (leb 1 (askedAt calls (st .next) .kind) && leb (askedAt calls (st .next) .kind) 3) ≡ true) where
+  abbrev asked : Asked
+  asked = askedAt calls (st .next)
+
+  abbrev shift : Shift
+  shift = shiftIn sheet (st .book) asked
+
+  abbrev after : Stand
+  after = record { book = bookWith (st .book) asked shift; count = st .count; next = st .next + 1; holds = st .holds }
+
+  commit-next : Commits sheet calls answers (replied answers (st .next) (shift .number) 0 0 0) st after
+  commit-next text journal first s =
+      let k = st .next in
+      let r = commit-ran sheet calls text journal first k commits in
+      let w = commit-answers sheet calls text journal first k commits in
+      let l = commit-list sheet calls text journal first k commits in
+      (record {
+        ran-is =
+            ap (λ (n : ℕ). ranAll sheet calls text (begunWith journal first) n .ran) (add-one k)
+            ∙ (r ∙ ap (λ (x : Ran). record { book = bookWith (x .book) asked (shiftIn sheet (x .book) asked); count = x .count }) (s .ran-is));
+        answers-are =
+            ap (λ (n : ℕ). ranAll sheet calls text (begunWith journal first) n .answers) (add-one k)
+            ∙ (w ∙ ap₂ (λ (x : Ran) (y : List ℕ). replied y k (shiftIn sheet (x .book) asked .number) 0 0 0) (s .ran-is) (s .answers-are));
+        known = s .known;
+      },
+      ap (λ (n : ℕ). ranAll sheet calls text (begunWith journal first) n .list) (add-one k) ∙ l)
+
+  -- the same as the code has it: places, limit and shift are results of calls
+  module _ (limits : List HubKwh) (limits-are : (j : ℕ) → j < 192 → getD limits j noKwh ≡ limitAt sheet (j / 8) (j % 8))
+      (units : ℕ) (units-is : units ≡ sheet .units) (x : Asked) (x-is : x ≡ askedAt calls (st .next))
+      (h from t target : ℕ) (h-is : h ≡ hourPlace (x .hour)) (from-is : from ≡ entryPlace (x .hour) (x .unit)) (t-is : t ≡ targetOf (x .kind) (x .unit) (x .to))
+      (target-is : target ≡ entryPlace (x .hour) t) (target-low : target < 192) (r : Shift)
+      (r-is : r ≡ shiftOf (st .holds) units x (eqb (getD (st .book .mark) h 0) settledMark) (getD (st .book .commitment) from noKwh) (getD (st .book .commitment) target noKwh) (getD limits target noKwh))
+      (answers′ : List ℕ) (answers-are : answers′ ≡ replied answers (st .next) (r .number) 0 0 0) where
+    from-at : from ≡ entryPlace (asked .hour) (asked .unit)
+    from-at = from-is ∙ ap (λ (y : Asked). entryPlace (y .hour) (y .unit)) x-is
+
+    target-at : target ≡ entryPlace (asked .hour) (targetOf (asked .kind) (asked .unit) (asked .to))
+    target-at =
+        target-is
+        ∙ (ap (λ (y : Asked). entryPlace (y .hour) t) x-is
+        ∙ ap (entryPlace (asked .hour)) (t-is ∙ ap (λ (y : Asked). targetOf (y .kind) (y .unit) (y .to)) x-is))
+
+    h-at : h ≡ hourPlace (asked .hour)
+    h-at = h-is ∙ ap (λ (y : Asked). hourPlace (y .hour)) x-is
+
+    last-at : getD limits target noKwh ≡ limitAt sheet (entryPlace (asked .hour) (targetOf (asked .kind) (asked .unit) (asked .to)) / 8) (entryPlace (asked .hour) (targetOf (asked .kind) (asked .unit) (asked .to)) % 8)
+    last-at = limits-are target target-low ∙ ap (λ (n : ℕ). limitAt sheet (n / 8) (n % 8)) target-at
+
+    shift-at : st .holds ≡ sheetHolds sheet → r ≡ shift
+    shift-at known =
+        r-is
+        ∙ (λ i. shiftOf (known i) (units-is i) (x-is i) (eqb (getD (st .book .mark) (h-at i) 0) settledMark) (getD (st .book .commitment) (from-at i) noKwh) (getD (st .book .commitment) (target-at i) noKwh) (last-at i))
+
+    book-at : st .holds ≡ sheetHolds sheet
+        → _≡_ {A = Ran} (record { book = bookWith (st .book) asked shift; count = st .count })
+        (record { book = record { commitment = set (set (st .book .commitment) from (r .from)) target (r .to); mark = st .book .mark; energy = st .book .energy; amounts = st .book .amounts }; count = st .count })
+    book-at known =
+        sym (λ i. record { book = record { commitment = set (set (st .book .commitment) (from-at i) (shift-at known i .from)) (target-at i) (shift-at known i .to); mark = st .book .mark; energy = st .book .energy; amounts = st .book .amounts }; count = st .count })
+
+    pub committed-next : Commits sheet calls answers answers′ st
+        (record { book = record { commitment = set (set (st .book .commitment) from (r .from)) target (r .to); mark = st .book .mark; energy = st .book .energy; amounts = st .book .amounts }; count = st .count; next = st .next + 1; holds = st .holds })
+    committed-next text journal first s =
+        let n = commit-next text journal first s in
+        (record {
+          ran-is = n .0 .ran-is ∙ book-at (s .known);
+          answers-are = n .0 .answers-are ∙ sym (answers-are ∙ ap (λ (z : Shift). replied answers (st .next) (z .number) 0 0 0) (shift-at (s .known)));
+          known = s .known;
+        },
+        n .1)
+
+-- a release gives and gets at one place
+pub one-place : (l : List HubKwh) (x : Asked) (from t target : ℕ) → from ≡ entryPlace (x .hour) (x .unit) → t ≡ targetOf (x .kind) (x .unit) (x .to) → target ≡ entryPlace (x .hour) t
+    → eqb (x .kind) 2 ≡ true → getD l from noKwh ≡ getD l target noKwh
+one-place l x from t target f g h k =
+    let n3 : eqb (x .kind) 3 ≡ false = ne-eqb (x .kind) 3 (λ k3. let two = eqb-true (x .kind) 2 k in omega arith) in
+    ap (λ (n : ℕ). getD l n noKwh) (f ∙ (ap (entryPlace (x .hour)) (sym (g ∙ simp n3)) ∙ sym h))
