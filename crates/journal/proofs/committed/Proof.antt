@@ -1,125 +1,124 @@
+-- After each turn what stands is what the calls so far leave.
+-- Assumes nothing.
+use mathlib.Core.Path.{_≡_, refl, _∙_}
+use Prim.Native.Nat.{ℕ, _-_, _+_, _/_, _%_, _≤_, _<_}
+use native.Mathlib.Omega.{arith}
+use lib.ListN.{length, getD}
+use Rattle.sheet.specs.declared.Sheet.{Sheet}
+use Rattle.state.specs.Book.{noKwh}
+use Rattle.state.specs.Ranges.{limitAt}
+use Rattle.journal.specs.declared.Stand.{Stand}
+use Rattle.journal.specs.Stands.{AllCommit, Commits}
+use Rattle.journal.proofs.Going.{commits-none, commits-then, committed-next, one-place}
 use borrow.Author.Needs.{needs}
 use Rattle.journal.proofs.committed.Statement.{statement}
 use Rattle.journal.proofs.committed.Tie as tie
-use Rattle.journal.proofs.committed.Reads as reads
-use Rattle.journal.proofs.committed.Lts as lts
-use Rattle.book.proofs.asked_at.Reads as asked-at-reads
-use Rattle.book.proofs.entry_place.Reads as entry-place-reads
-use Rattle.book.proofs.hour_place.Reads as hour-place-reads
-use Rattle.book.proofs.limits_of.Reads as limits-of-reads
-use Rattle.book.proofs.shift_of.Reads as shift-of-reads
-use Rattle.book.proofs.target_of.Reads as target-of-reads
-use Rattle.journal.proofs.reply.Reads as reply-reads
 
 abbrev Inv-loop : tie.InvT-loop
-Inv-loop calls answers₀ end stand units limits holds book₀ i₀ answers book i = ?
+Inv-loop calls answers₀ end stand units limits holds book₀ i₀ answers book i =
+    (stand .next ≤ i) × (i ≤ end) × AllCommit calls (stand .next) end
+    × ((sheet : Sheet) → units ≡ sheet .units → ((j : ℕ) → j < 192 → getD limits j noKwh ≡ limitAt sheet (j / 8) (j % 8))
+    → Commits sheet calls answers₀ answers stand (record { book = book; count = stand .count; next = i; holds = stand .holds }))
+    × (length answers ≡ length answers₀)
 
 abbrev μ-loop : tie.MeasureT-loop
-μ-loop calls answers₀ end stand units limits holds book₀ i₀ answers book i = ?
+μ-loop calls answers₀ end stand units limits holds book₀ i₀ answers book i = end - i
 
--- src/lib.rt:259:18
 limits-of-requires : tie.Need-limits-of-requires Inv-loop μ-loop
-limits-of-requires c κs = ?
+limits-of-requires c κs = search needs
 
--- src/lib.rt:263:5
 loop-holds : tie.Need-loop-holds Inv-loop μ-loop
-loop-holds c = ?
+loop-holds c =
+    let a = c .before .before .before .before .args in
+    (omega arith, c .before .before .before .before .pre .0, c .before .before .before .before .pre .1, λ sheet u l. commits-none sheet (a .calls .now) (a .answers .now) (a .stand), refl)
 
--- src/lib.rt:264:13
 asked-at-requires : tie.Need-asked-at-requires Inv-loop μ-loop
-asked-at-requires c κs = ?
+asked-at-requires c κs = search needs
 
--- src/lib.rt:268:13
 hour-place-requires : tie.Need-hour-place-requires Inv-loop μ-loop
-hour-place-requires c κs = ?
+hour-place-requires c κs = search needs
 
--- src/lib.rt:269:13
 entry-place-requires : tie.Need-entry-place-requires Inv-loop μ-loop
-entry-place-requires c κs = ?
+entry-place-requires c κs = search needs
 
--- src/lib.rt:270:46
 target-of-requires : tie.Need-target-of-requires Inv-loop μ-loop
-target-of-requires c κs = ?
+target-of-requires c κs = search needs
 
--- src/lib.rt:270:13
 entry-place-requires-2 : tie.Need-entry-place-requires-2 Inv-loop μ-loop
-entry-place-requires-2 c κs = ?
+entry-place-requires-2 c κs = search needs
 
--- src/lib.rt:271:23
 mul-settled : tie.Need-mul-settled Inv-loop μ-loop
-mul-settled c = ?
+mul-settled c = search needs
 
--- src/lib.rt:271:23
 element-copy-out-settled : tie.Need-element-copy-out-settled Inv-loop μ-loop
-element-copy-out-settled c = ?
+element-copy-out-settled c = search needs
 
--- src/lib.rt:272:22
 mul-source : tie.Need-mul-source Inv-loop μ-loop
-mul-source c = ?
+mul-source c = search needs
 
--- src/lib.rt:272:22
 element-copy-out-source : tie.Need-element-copy-out-source Inv-loop μ-loop
-element-copy-out-source c = ?
+element-copy-out-source c = search needs
 
--- src/lib.rt:273:20
 mul-held : tie.Need-mul-held Inv-loop μ-loop
-mul-held c = ?
+mul-held c = search needs
 
--- src/lib.rt:273:20
 element-copy-out-held : tie.Need-element-copy-out-held Inv-loop μ-loop
-element-copy-out-held c = ?
+element-copy-out-held c = search needs
 
--- src/lib.rt:274:20
 mul-last : tie.Need-mul-last Inv-loop μ-loop
-mul-last c = ?
+mul-last c = search needs
 
--- src/lib.rt:274:20
 array-copy-out-last : tie.Need-array-copy-out-last Inv-loop μ-loop
-array-copy-out-last c = ?
+array-copy-out-last c = search needs
 
--- src/lib.rt:275:13
 shift-of-requires : tie.Need-shift-of-requires Inv-loop μ-loop
-shift-of-requires c κs = ?
+shift-of-requires c κs =
+    one-place (c .before .before .before .before .before .before .before .before .before .before .loop .book .commitment) (c .before .before .before .before .before .before .before .before .asked-at .result) _ _ _ (c .before .before .before .before .before .before .entry-place .ensures .0) (c .before .before .before .before .before .target-of .ensures) (c .before .before .before .before .entry-place2 .ensures .0)
 
--- src/lib.rt:278:9
 mul-left : tie.Need-mul-left Inv-loop μ-loop
-mul-left c = ?
+mul-left c = search needs
 
--- src/lib.rt:278:9
 element-set-from-left : tie.Need-element-set-from-left Inv-loop μ-loop
-element-set-from-left c = ?
+element-set-from-left c = search needs
 
--- src/lib.rt:279:9
 mul-then : tie.Need-mul-then Inv-loop μ-loop
-mul-then c = ?
+mul-then c = search needs
 
--- src/lib.rt:279:9
 element-set-from-then : tie.Need-element-set-from-then Inv-loop μ-loop
-element-set-from-then c = ?
+element-set-from-then c = search needs
 
--- src/lib.rt:280:9
 reply-requires : tie.Need-reply-requires Inv-loop μ-loop
-reply-requires c κs = ?
+reply-requires c κs = search needs
 
--- src/lib.rt:281:9
 add-i : tie.Need-add-i Inv-loop μ-loop
-add-i c = ?
+add-i c = record { fits = omega (arith, c .before .before .before .before .before .before .before .before .before .before .before .before .before .before .before .before .loop-test .taken, c .before .before .before .before .before .before .before .before .before .before .before .before .before .before .before .before .before .before .before .before .before .before .good) }
 
--- src/lib.rt:263:5
 loop-less : tie.Need-loop-less Inv-loop μ-loop
-loop-less c = ?
+loop-less c = search needs
 
--- src/lib.rt:263:5
 loop-again : tie.Need-loop-again Inv-loop μ-loop
-loop-again c = ?
+loop-again c =
+    let a = c .before .before .before .before .before .before .before .before .before .before .before .before .before .before .before .before .before .before .before .before .before .before .args in
+    let l = c .before .before .before .before .before .before .before .before .before .before .before .before .before .before .before .before .before .loop in
+    let i = l .i in
+    let st : Stand = record { book = l .book; count = a .stand .count; next = i; holds = a .stand .holds } in
+    (omega (arith, l .inv .0),
+    omega arith,
+    l .inv .2,
+    λ sheet u f. commits-then sheet (a .calls .now) (a .answers .now) _ _ (a .stand) st _ (l .inv .3 sheet u f)
+    (committed-next sheet (a .calls .now) _ st (l .inv .2 i (l .inv .0) (omega arith)) (c .before .before .before .before .before .before .before .before .before .before .before .before .before .before .before .before .before .before .before .limits-of .result) f (a .sheet .units) u (c .before .before .before .before .before .before .before .before .before .before .before .before .before .before .before .asked-at .result) (c .before .before .before .before .before .before .before .before .before .before .before .before .before .before .before .asked-at .ensures)
+    _ _ _ _ (c .before .before .before .before .before .before .before .before .before .before .before .before .before .before .hour-place .ensures .0) (c .before .before .before .before .before .before .before .before .before .before .before .before .before .entry-place .ensures .0) (c .before .before .before .before .before .before .before .before .before .before .before .before .target-of .ensures) (c .before .before .before .before .before .before .before .before .before .before .before .entry-place2 .ensures .0) (c .before .before .before .before .before .before .before .before .before .before .before .entry-place2 .ensures .1)
+    (c .before .before .before .before .before .before .shift-of .result) (c .before .before .before .before .before .before .shift-of .ensures) _ (c .before .before .reply .ensures)),
+    c .before .before .reply .kept .0 ∙ l .inv .4)
 
--- src/lib.rt:253:1
 same-length : tie.Need-same-length Inv-loop μ-loop
-same-length c = ?
+same-length c = c .before .loop .inv .4
 
--- src/lib.rt:253:1
 returns : tie.Need-returns Inv-loop μ-loop
-returns c = ?
+returns c =
+    let a = c .before .before .before .before .before .before .args in
+    let l = c .before .loop in
+    (l .inv .3 (a .sheet) refl (c .before .before .before .limits-of .ensures), omega (arith, l .inv .1))
 
 pub committed-spec : {M : Type 1} → statement M
 committed-spec =
