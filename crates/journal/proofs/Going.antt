@@ -11,27 +11,33 @@ use borrow.Author.Tests.{eqb-true, ne-eqb}
 use lib.Dec.{leb, eqb}
 use lib.ListN.{length, getD, set, take}
 use lib.Seq.{paste, paste-zero}
+use Rattle.finite.proofs.Tests.{and-right}
 use Rattle.energy.specs.declared.HubKwh.{HubKwh}
 use Rattle.sheet.specs.declared.Sheet.{Sheet}
 use Rattle.sheet.specs.Ranges.{sheetHolds}
 use Rattle.state.specs.declared.Book.{Book}
 use Rattle.state.specs.Book.{noKwh, settledMark}
-use Rattle.state.specs.Ranges.{limitAt}
+use Rattle.state.specs.Ranges.{limitAt, bookHolds}
 use Rattle.postings.specs.declared.Posting.{Posting}
-use Rattle.postings.specs.Journal.{postedHold}
+use Rattle.postings.specs.Journal.{countHolds, postedHold}
 use Rattle.book.specs.declared.Asked.{Asked}
 use Rattle.book.specs.declared.Shift.{Shift}
 use Rattle.book.specs.declared.Decision.{Decision}
+use Rattle.book.specs.Numbers.{numberOf, lineOf, postedOf}
+use Rattle.book.specs.Sound.{Known}
 use Rattle.book.specs.Calls.{State, bookFits, decided, decidedOn, requestOf, outcomeOf, journalAfter}
 use Rattle.book.specs.Requests.{askedAt, callFor, callAt, requestAt, callsIn}
 use Rattle.book.specs.Commitments.{hourPlace, entryPlace, targetOf, shiftOf, shiftIn, bookWith}
 use Rattle.book.proofs.Promise.{promise}
+use Rattle.book.proofs.Places.{decided-fits, decided-rows}
 use Rattle.book.proofs.Carried.{Carried, carried}
 use Rattle.journal.specs.declared.Ran.{Ran}
 use Rattle.journal.specs.declared.Stand.{Stand}
-use Rattle.journal.specs.Journal.{performed}
+use Rattle.journal.specs.Journal.{posted, performed}
 use Rattle.journal.specs.Run.{Running, replied, answered, stateOf, performedAt, turned, ranAll}
 use Rattle.journal.specs.Stands.{ranOf, begunWith, listAt, Stands, Commits}
+use Rattle.journal.proofs.Posted.{posted-paste}
+use Rattle.journal.proofs.Turned.{length-list}
 use Rattle.journal.proofs.Listed.{states}
 
 -- what the next calls leave after what the first ones left
@@ -172,3 +178,80 @@ pub one-place : (l : List HubKwh) (x : Asked) (from t target : ℕ) → from ≡
 one-place l x from t target f g h k =
     let n3 : eqb (x .kind) 3 ≡ false = ne-eqb (x .kind) 3 (λ k3. let two = eqb-true (x .kind) 2 k in omega arith) in
     ap (λ (n : ℕ). getD l n noKwh) (f ∙ (ap (entryPlace (x .hour)) (sym (g ∙ simp n3)) ∙ sym h))
+
+-- another call, decided without 12
+module _ (sheet : Sheet) (calls text : List ℕ) (journal : List Posting) (first answers : List ℕ) (st : Stand) (s : Stands sheet calls text journal first answers st) where
+  abbrev now-at : Running
+  now-at = ranAll sheet calls text (begunWith journal first) (st .next)
+
+  abbrev places : ℕ
+  places = length journal
+
+  fits-at : bookFits sheet (st .book) (st .count) places (postedHold (take (now-at .ran .count) (now-at .list))) ≡ true
+  fits-at =
+      subst (λ (n : ℕ). bookFits sheet (st .book) (st .count) n (postedHold (take (now-at .ran .count) (now-at .list))) ≡ true)
+      (length-list sheet calls text (begunWith journal first) (st .next))
+      (subst (λ (r : Ran). bookFits sheet (r .book) (r .count) (length (now-at .list)) (postedHold (take (now-at .ran .count) (now-at .list))) ≡ true) (s .ran-is)
+      (in-ranges sheet calls text journal first (st .next)))
+
+  posted-at : postedHold (take (now-at .ran .count) (now-at .list)) ≡ true
+  posted-at = and-right (countHolds (st .count) places) _ (and-right (bookHolds sheet (st .book)) _ fits-at)
+
+  pub known-at : Known sheet (st .holds) (st .book) (st .count) places
+  known-at =
+      record {
+        same = s .known;
+        fits = λ t. subst (λ (b : Bool). bookFits sheet (st .book) (st .count) places b ≡ true) posted-at fits-at;
+      }
+
+  abbrev d : Decision
+  d = decided sheet (st .book) (requestAt sheet calls text (st .next)) (st .count) places true
+
+  decided-here : decided-at sheet calls text journal first (st .next) ≡ d
+  unfolding requestAt callAt
+  decided-here =
+      (λ i. decided sheet (s .ran-is i .book) (requestAt sheet calls text (st .next)) (s .ran-is i .count) (length (now-at .list)) (postedHold (take (now-at .ran .count) (now-at .list))))
+      ∙ (ap (λ (n : ℕ). decided sheet (st .book) (requestAt sheet calls text (st .next)) (st .count) n (postedHold (take (now-at .ran .count) (now-at .list)))) (length-list sheet calls text (begunWith journal first) (st .next))
+      ∙ ap (λ (b : Bool). decided sheet (st .book) (requestAt sheet calls text (st .next)) (st .count) places b) posted-at)
+
+  abbrev then : Stand
+  then = record { book = d .book; count = d .count; next = st .next + 1; holds = st .holds }
+
+  abbrev replies : List ℕ
+  replies = replied answers (st .next) (numberOf (d .answer)) (lineOf (d .answer)) (postedOf (d .answer)) (d .place)
+
+  pub call-stands : Stands sheet calls text journal first replies then
+  unfolding answered
+  call-stands =
+      record {
+        ran-is =
+            ap (λ (n : ℕ). ranAll sheet calls text (begunWith journal first) n .ran) (add-one (st .next))
+            ∙ (next-ran sheet calls text journal first (st .next) ∙ ap (λ (x : Decision). record { book = x .book; count = x .count }) decided-here);
+        answers-are =
+            ap (λ (n : ℕ). ranAll sheet calls text (begunWith journal first) n .answers) (add-one (st .next))
+            ∙ (next-answers sheet calls text journal first (st .next)
+            ∙ ap₂ (λ (x : Decision) (y : List ℕ). answered y (st .next) (outcomeOf x)) decided-here (s .answers-are));
+        known = s .known;
+      }
+
+  pub call-list : listAt sheet calls text journal first (st .next + 1) ≡ posted (listAt sheet calls text journal first (st .next)) (d .at) (d .plan) (d .n)
+  call-list =
+      ap (λ (n : ℕ). ranAll sheet calls text (begunWith journal first) n .list) (add-one (st .next))
+      ∙ (next-list sheet calls text journal first (st .next)
+      ∙ (ap (journalAfter (now-at .list)) decided-here
+      ∙ sym (posted-paste (now-at .list) (d .at) (d .plan) (d .n)
+      (omega (arith, decided-fits sheet (st .book) (requestAt sheet calls text (st .next)) (st .count) places true .1, length-list sheet calls text (begunWith journal first) (st .next)))
+      (decided-rows sheet (st .book) (requestAt sheet calls text (st .next)) (st .count) places true))))
+
+  -- the same as the code has it: the decision and the numbers of its answer are results of calls
+  pub call-next : (x : Decision) → x ≡ d → (number line count : ℕ) → number ≡ numberOf (x .answer) → line ≡ lineOf (x .answer) → count ≡ postedOf (x .answer)
+      → (answers′ : List ℕ) → answers′ ≡ replied answers (st .next) number line count (x .place)
+      → Stands sheet calls text journal first answers′ (record { book = x .book; count = x .count; next = st .next + 1; holds = st .holds })
+      × (listAt sheet calls text journal first (st .next + 1) ≡ posted (listAt sheet calls text journal first (st .next)) (x .at) (x .plan) (x .n))
+  call-next x x-is number line count number-is line-is count-is answers′ answers-are =
+      subst (λ (w : List ℕ). Stands sheet calls text journal first w (record { book = x .book; count = x .count; next = st .next + 1; holds = st .holds })
+      × (listAt sheet calls text journal first (st .next + 1) ≡ posted (listAt sheet calls text journal first (st .next)) (x .at) (x .plan) (x .n)))
+      (sym (answers-are ∙ (λ i. replied answers (st .next) (number-is i) (line-is i) (count-is i) (x .place))))
+      (subst (λ (y : Decision). Stands sheet calls text journal first (replied answers (st .next) (numberOf (y .answer)) (lineOf (y .answer)) (postedOf (y .answer)) (y .place)) (record { book = y .book; count = y .count; next = st .next + 1; holds = st .holds })
+      × (listAt sheet calls text journal first (st .next + 1) ≡ posted (listAt sheet calls text journal first (st .next)) (y .at) (y .plan) (y .n)))
+      (sym x-is) (call-stands, call-list))

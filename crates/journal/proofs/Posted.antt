@@ -38,7 +38,7 @@ unfolding coveredBy
 covered-le count len = omega arith
 
 -- rows stored one after the other are pasted in
-posted-paste : (l : List Posting) (at : ℕ) (p : Plan) (n : ℕ) → n ≤ length l - at → n ≤ length (p .row) → posted l at p n ≡ paste l at (p .row) n
+pub posted-paste : (l : List Posting) (at : ℕ) (p : Plan) (n : ℕ) → n ≤ length l - at → n ≤ length (p .row) → posted l at p n ≡ paste l at (p .row) n
 unfolding posted
 posted-paste l at p zero h r = paste-zero l at (p .row)
 posted-paste l at p (suc k) h r =
