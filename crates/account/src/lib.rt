@@ -5,14 +5,17 @@ ghost use Prim.Native.Nat.{suc, _-_, _≤_};
 ghost use lib.ListN.{length, replicate};
 ghost use Rattle.postings.specs.Journal.{noPosting};
 ghost use Rattle.state.specs.Book.{emptyBook};
+ghost use Rattle.book.specs.Calls.{outcomeOf};
 ghost use Rattle.book.specs.Requests.{noneAsked};
+ghost use Rattle.book.specs.Sound.{Known};
 ghost use Rattle.decimal.specs.Output.{output, written, filled};
 ghost use Rattle.listing.specs.Listing.{mostBytes};
 ghost use Rattle.account.specs.Day.{takeRow, takeOf, settleOf, nextAt, dayEnded, dayAt, dayAfter, Running, turned, ranOut, dayFrom};
+ghost use Rattle.account.specs.Reached.{Reached, decidedNext};
 ghost use Rattle.account.specs.Statement.{dayLines, statementOf};
 use book::Answer;
 use book::Asked;
-use book::Outcome;
+use book::Decision;
 use lines::ReadAnswer;
 use postings::Posting;
 use sheet::Sheet;
@@ -173,17 +176,30 @@ fn day_at(text: &[u8], at: usize, left: usize, count: u64, book: Book) -> Day
     }
 }
 
-// The day after a call.
-fn day_after(text: &[u8], day: Day, outcome: Outcome) -> Day
-    ensures { λ r. ⌜ r ≡ dayAfter (now (text .entry)) day outcome ⌝ }
+// What the day's call comes to, where the day is known to be in its ranges.
+fn decided_next(sheet: Sheet, holds: bool, text: &[u8], places: usize, day: Day) -> Decision
+    requires { ⌜ Known sheet holds (day .book) (day .count) places ⌝ }
+    ensures { λ r. ⌜ r ≡ decidedNext sheet (now (text .entry)) day places ⌝ }
 {
-    let answer = outcome.answer;
-    let book = outcome.book;
+    let asked = day.asked;
+    let book = day.book;
+    let request = book::request_of(sheet, text, asked);
+    book::decide_known(sheet, holds, book, request, day.count, places)
+}
+
+// The day after a call.
+fn day_after(text: &[u8], day: Day, decision: Decision) -> Day
+    ensures { λ r. ⌜ r ≡ dayAfter (now (text .entry)) day (outcomeOf decision) ⌝ }
+{
+    let answer = decision.answer;
+    let book = decision.book;
     match answer {
-        Answer::Accepted => day_at(text, day.after, day.left, outcome.count, book),
-        Answer::Posted(_) => day_at(text, outcome.place as usize, day.left, outcome.count, book),
+        Answer::Accepted => day_at(text, day.after, day.left, decision.count, book),
+        Answer::Posted(_) => {
+            day_at(text, decision.place as usize, day.left, decision.count, book)
+        }
         Answer::Refused(refusal) => {
-            day_ended(outcome.count, book, book::refusal_number(refusal))
+            day_ended(decision.count, book, book::refusal_number(refusal))
         }
     }
 }
@@ -196,20 +212,23 @@ fn day_begun(text: &[u8], at: usize) -> Day
 }
 
 // One call of the day.
-fn turn(list: &mut [Posting], sheet: Sheet, text: &[u8], day: Day) -> Day
+fn turn(list: &mut [Posting], sheet: Sheet, holds: bool, text: &[u8], day: Day) -> Day
+    requires { ⌜ Reached sheet holds (record { list = now list; day = day }) ⌝ }
     ensures { λ r. ⌜ record { list = now (list .exit); day = r } ≡ turned sheet (now (text .entry)) (record { list = now (list .entry); day = day }) ⌝ }
 {
-    let outcome = journal::call(list, day.count, sheet, day.book, text, day.asked);
-    day_after(text, day, outcome)
+    let decision = decided_next(sheet, holds, text, list.len(), day);
+    journal::append(list, decision.at, decision.plan, decision.n);
+    day_after(text, day, decision)
 }
 
-// The day's calls, over a lent journal.
+// The day's calls, over a lent journal. The sheet is tested once.
 fn carry_out(list: &mut [Posting], sheet: Sheet, text: &[u8], at: usize) -> Day
     ensures { λ r. ⌜ record { list = now (list .exit); day = r } ≡ ranOut sheet (now (text .entry)) (record { list = now (list .entry); day = dayAt (now (text .entry)) at (suc (length (now (text .entry)))) 0 emptyBook }) ⌝ }
 {
+    let holds = sheet::sheet_holds(sheet);
     let mut day = day_begun(text, at);
     while 0 < day.left {
-        day = turn(list, sheet, text, day);
+        day = turn(list, sheet, holds, text, day);
     }
     day
 }

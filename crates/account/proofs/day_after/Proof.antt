@@ -3,6 +3,7 @@
 use Prim.Native.Nat.{ℕ}
 use mathlib.Core.Path.{_≡_, ap, sym, _∙_}
 use Rattle.book.specs.declared.Answer.{Answer}
+use Rattle.book.specs.Calls.{outcomeOf}
 use Rattle.account.specs.Day.{answeredBy, dayEnded, dayAfter}
 use borrow.Author.Needs.{needs}
 use Rattle.account.proofs.day_after.Statement.{statement}
@@ -33,21 +34,21 @@ returns : tie.Need-returns
 unfolding dayAfter
 returns c =
     let g = c .before .before .before .before .before .args in
-    c .day-at .ensures ∙ ap (answeredBy (g .text .now) (g .day) (g .outcome)) (sym (c .before .enum-told .given .1))
+    c .day-at .ensures ∙ ap (answeredBy (g .text .now) (g .day) (outcomeOf (g .decision))) (sym (c .before .enum-told .given .1))
 
 returns-2 : tie.Need-returns-2
 unfolding dayAfter
 returns-2 c =
     let g = c .before .before .before .before .before .args in
-    c .day-at2 .ensures ∙ ap (answeredBy (g .text .now) (g .day) (g .outcome)) (sym (c .before .enum-told2 .given .1))
+    c .day-at2 .ensures ∙ ap (answeredBy (g .text .now) (g .day) (outcomeOf (g .decision))) (sym (c .before .enum-told2 .given .1))
 
 returns-3 : tie.Need-returns-3
 unfolding dayAfter
 returns-3 c =
     let g = c .before .before .before .before .before .before .before .args in
     c .day-ended .ensures
-    ∙ (ap (dayEnded (g .outcome .count) (g .outcome .book)) (c .before .refusal-number .ensures)
-    ∙ ap (answeredBy (g .text .now) (g .day) (g .outcome)) (sym (c .before .before .before .answer .given .1)))
+    ∙ (ap (dayEnded (g .decision .count) (g .decision .book)) (c .before .refusal-number .ensures)
+    ∙ ap (answeredBy (g .text .now) (g .day) (outcomeOf (g .decision))) (sym (c .before .before .before .answer .given .1)))
 
 pub day-after-spec : {M : Type 1} → statement M
 day-after-spec =
