@@ -1,48 +1,58 @@
--- A turn from its parts: what the call comes to, and the day after it. Each turn leaves fewer calls, so the turns end, and those from a day on
+-- A turn from its parts: what the call comes to where 12 does not hold, and the day after it. Each turn leaves fewer calls, so the turns end, and those from a day on
 -- are those from the day after it.
 -- Assumes nothing.
 use mathlib.Core.Path.{_≡_, refl, sym, ap, ap₂, _∙_}
 use mathlib.Core.Logic.{_⊎_, inl, inr, ⊎-elim}
-use mathlib.Core.Bool.{cond}
+use mathlib.Core.Bool.{Bool, true, cond}
 use mathlib.Core.List.{List}
 use Prim.Native.Nat.{ℕ, zero, suc, _-_, _<_}
 use native.Mathlib.Omega.{arith}
 use borrow.Author.Tests.{ne-eqb}
 use lib.Dec.{eqb}
+use lib.ListN.{length}
 use Rattle.sheet.specs.declared.Sheet.{Sheet}
-use Rattle.state.specs.declared.Book.{Book}
 use Rattle.postings.specs.declared.Posting.{Posting}
 use Rattle.book.specs.declared.Answer.{Answer}
 use Rattle.book.specs.declared.Answer.the-variants.{Accepted, Posted, Refused}
-use Rattle.book.specs.declared.Outcome.{Outcome}
-use Rattle.journal.specs.Journal.{Performed}
+use Rattle.book.specs.declared.Decision.{Decision}
+use Rattle.book.specs.Calls.{outcomeOf, requestOf}
+use Rattle.book.specs.Requests.{callFor}
+use Rattle.journal.specs.Journal.{posted, Performed}
+use Rattle.journal.proofs.Posted.{performed-by}
 use Rattle.account.specs.declared.Next.{Next}
 use Rattle.account.specs.declared.Next.the-variants.{Ends, Bad, Asks}
 use Rattle.account.specs.declared.Day.{Day}
-use Rattle.account.specs.Day.{nextAt, dayWith, answeredBy, dayAfter, Running, performedIn, turned, ranTo, ranOut}
+use Rattle.account.specs.Day.{nextAt, dueWith, answeredBy, dayAfter, Running, performedIn, turned, ranTo, ranOut}
+use Rattle.account.specs.Reached.{Reached, decidedNext}
+use Rattle.account.proofs.Promised.{reached-posted}
 
-pub turned-is : (sheet : Sheet) (text : List ℕ) (s : Running) (o : Outcome) (l : List Posting) (d : Day)
-    → _≡_ {A = Performed} (record { outcome = o; list = l }) (performedIn sheet text s) → d ≡ dayAfter text (s .day) o
-    → _≡_ {A = Running} (record { list = l; day = d }) (turned sheet text s)
-unfolding turned
-turned-is sheet text s o l d e f =
-    ap₂ (λ (x : List Posting) (y : Day). record { list = x; day = y }) (ap (λ (p : Performed). p .list) e)
-    (f ∙ ap (λ (p : Performed). dayAfter text (s .day) (p .outcome)) e)
+module _ (sheet : Sheet) (holds : Bool) (text : List ℕ) (s : Running) (reached : Reached sheet holds s) where
+  abbrev d : Decision
+  d = decidedNext sheet text (s .day) (length (s .list))
+
+  pub turned-by : (l : List Posting) (next : Day) → l ≡ posted (s .list) (d .at) (d .plan) (d .n) → next ≡ dayAfter text (s .day) (outcomeOf d)
+      → _≡_ {A = Running} (record { list = l; day = next }) (turned sheet text s)
+  unfolding turned
+  turned-by l next e f =
+      let p : _≡_ {A = Performed} (record { outcome = outcomeOf d; list = l }) (performedIn sheet text s) =
+      performed-by (s .list) (s .day .count) sheet (s .day .book) (requestOf sheet (callFor text (s .day .asked))) true (λ _. sym (reached-posted sheet holds s reached)) l e in
+      ap₂ (λ (x : List Posting) (y : Day). record { list = x; day = y }) (ap (λ (z : Performed). z .list) p)
+      (f ∙ ap (λ (z : Performed). dayAfter text (s .day) (z .outcome)) p)
 
 -- how many calls are left falls by one, or to 0
-left-with : (left count : ℕ) (b : Book) (n : Next) → (dayWith left count b n .left ≡ 0) ⊎ (dayWith left count b n .left ≡ left - 1)
-left-with left count b Ends = inl refl
-left-with left count b (Bad k) = inl refl
-left-with left count b (Asks a after) = inr refl
+left-with : (left : ℕ) (n : Next) → (dueWith left n .left ≡ 0) ⊎ (dueWith left n .left ≡ left - 1)
+left-with left Ends = inl refl
+left-with left (Bad k) = inl refl
+left-with left (Asks a after) = inr refl
 
-left-by : (text : List ℕ) (d : Day) (o : Outcome) (a : Answer) → (answeredBy text d o a .left ≡ 0) ⊎ (answeredBy text d o a .left ≡ d .left - 1)
-left-by text d o Accepted = left-with (d .left) (o .count) (o .book) (nextAt text (d .after))
-left-by text d o (Posted n) = left-with (d .left) (o .count) (o .book) (nextAt text (o .place))
-left-by text d o (Refused r) = inl refl
+left-by : (text : List ℕ) (after left place : ℕ) (a : Answer) → (answeredBy text after left place a .left ≡ 0) ⊎ (answeredBy text after left place a .left ≡ left - 1)
+left-by text after left place Accepted = left-with left (nextAt text after)
+left-by text after left place (Posted n) = left-with left (nextAt text place)
+left-by text after left place (Refused r) = inl refl
 
 pub left-next : (sheet : Sheet) (text : List ℕ) (s : Running) → (turned sheet text s .day .left ≡ 0) ⊎ (turned sheet text s .day .left ≡ s .day .left - 1)
 unfolding turned dayAfter
-left-next sheet text s = let o = performedIn sheet text s .outcome in left-by text (s .day) o (o .answer)
+left-next sheet text s = let o = performedIn sheet text s .outcome in left-by text (s .day .after) (s .day .left) (o .place) (o .answer)
 
 pub left-less : (sheet : Sheet) (text : List ℕ) (s : Running) (k : ℕ) → s .day .left ≡ suc k → turned sheet text s .day .left < suc k
 left-less sheet text s k e = ⊎-elim (λ z. omega arith) (λ z. omega arith) (left-next sheet text s)

@@ -25,6 +25,7 @@ use Rattle.book.specs.Requests.{callFor, noneAsked}
 use Rattle.journal.specs.Journal.{Performed, performed}
 use Rattle.account.specs.declared.Next.{Next}
 use Rattle.account.specs.declared.Next.the-variants.{Ends, Bad, Asks}
+use Rattle.account.specs.declared.Due.{Due}
 use Rattle.account.specs.declared.Day.{Day}
 
 -- "`take=hour:unit:kWh`"; "A take without three numbers of at most 9 digits is 2"
@@ -72,27 +73,33 @@ nextAt text at =
     let rest = drop at text in
     cond (ltb at (length text)) (cond (has 10 rest) (lineCall text at (before 10 rest)) (Bad 4)) Ends
 
--- the day has ended, with a refusal's number or 0
-abbrev pub dayEnded : (count : ℕ) → Book → (refusal : ℕ) → Day
-dayEnded count b refusal = record { left = 0; count = count; book = b; asked = noneAsked; after = 0; refusal = refusal }
+-- no call is due: the day has ended, with a refusal's number or 0
+abbrev pub noneDue : (refusal : ℕ) → Due
+noneDue refusal = record { left = 0; asked = noneAsked; after = 0; refusal = refusal }
 
 -- a call is due. Each call takes a byte of the text at least, so no more come than `left`
-abbrev pub dayWith : (left count : ℕ) → Book → Next → Day
-dayWith left count b Ends = dayEnded count b 0
-dayWith left count b (Bad number) = dayEnded count b number
-dayWith left count b (Asks a after) = record { left = left - 1; count = count; book = b; asked = a; after = after; refusal = 0 }
+abbrev pub dueWith : (left : ℕ) → Next → Due
+dueWith left Ends = noneDue 0
+dueWith left (Bad number) = noneDue number
+dueWith left (Asks a after) = record { left = left - 1; asked = a; after = after; refusal = 0 }
+
+abbrev pub dueAt : List ℕ → (at left : ℕ) → Due
+dueAt text at left = dueWith left (nextAt text at)
+
+abbrev pub dayWith : (count : ℕ) → Book → Due → Day
+dayWith count b x = record { left = x .left; count = count; book = b; asked = x .asked; after = x .after; refusal = x .refusal }
 
 abbrev pub dayAt : List ℕ → (at left count : ℕ) → Book → Day
-dayAt text at left count b = dayWith left count b (nextAt text at)
+dayAt text at left count b = dayWith count b (dueAt text at left)
 
 -- after a call: a take is followed by the next line, a record by the place that the call answers; "the first refusal" ends the day
-abbrev pub answeredBy : List ℕ → Day → Outcome → Answer → Day
-answeredBy text d o Accepted = dayAt text (d .after) (d .left) (o .count) (o .book)
-answeredBy text d o (Posted n) = dayAt text (o .place) (d .left) (o .count) (o .book)
-answeredBy text d o (Refused r) = dayEnded (o .count) (o .book) (refusalNumber r)
+abbrev pub answeredBy : List ℕ → (after left place : ℕ) → Answer → Due
+answeredBy text after left place Accepted = dueAt text after left
+answeredBy text after left place (Posted n) = dueAt text place left
+answeredBy text after left place (Refused r) = noneDue (refusalNumber r)
 
 unfoldable pub dayAfter : List ℕ → Day → Outcome → Day
-dayAfter text d o = answeredBy text d o (o .answer)
+dayAfter text d o = dayWith (o .count) (o .book) (answeredBy text (d .after) (d .left) (o .place) (o .answer))
 
 -- the day, and the list of postings
 pub record Running : Type 0 where

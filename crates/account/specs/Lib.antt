@@ -1,2 +1,3 @@
 pub mod Day
+pub mod Reached
 pub mod Statement

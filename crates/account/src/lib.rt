@@ -5,14 +5,17 @@ ghost use Prim.Native.Nat.{suc, _-_, _≤_};
 ghost use lib.ListN.{length, replicate};
 ghost use Rattle.postings.specs.Journal.{noPosting};
 ghost use Rattle.state.specs.Book.{emptyBook};
+ghost use Rattle.book.specs.Calls.{outcomeOf};
 ghost use Rattle.book.specs.Requests.{noneAsked};
+ghost use Rattle.book.specs.Sound.{Known};
 ghost use Rattle.decimal.specs.Output.{output, written, filled};
 ghost use Rattle.listing.specs.Listing.{mostBytes};
-ghost use Rattle.account.specs.Day.{takeRow, takeOf, settleOf, nextAt, dayEnded, dayAt, dayAfter, Running, turned, ranOut, dayFrom};
+ghost use Rattle.account.specs.Day.{takeRow, takeOf, settleOf, nextAt, noneDue, dueAt, dayAt, answeredBy, dayAfter, Running, turned, ranOut, dayFrom};
+ghost use Rattle.account.specs.Reached.{Reached, decidedNext};
 ghost use Rattle.account.specs.Statement.{dayLines, statementOf};
 use book::Answer;
 use book::Asked;
-use book::Outcome;
+use book::Decision;
 use lines::ReadAnswer;
 use postings::Posting;
 use sheet::Sheet;
@@ -27,8 +30,16 @@ pub enum Next {
     Asks(Asked, usize),
 }
 
-// The day so far. While calls are left, one is asked for, and `after` is the place after its line; otherwise the day has ended, and the
-// refusal is its number or 0.
+// What is due in the day. While calls are left, one is asked for, and `after` is the place after its line; otherwise the day has ended, and
+// the refusal is its number or 0.
+pub struct Due {
+    pub left: usize,
+    pub asked: Asked,
+    pub after: usize,
+    pub refusal: u64,
+}
+
+// The day so far, with what is due.
 pub struct Day {
     pub left: usize,
     pub count: u64,
@@ -132,13 +143,11 @@ fn next_at(text: &[u8], at: usize) -> Next
     Next::Bad(1)
 }
 
-fn day_ended(count: u64, book: Book, refusal: u64) -> Day
-    ensures { λ r. ⌜ r ≡ dayEnded count book refusal ⌝ }
+fn none_due(refusal: u64) -> Due
+    ensures { λ r. ⌜ r ≡ noneDue refusal ⌝ }
 {
-    Day {
+    Due {
         left: 0,
-        count: count,
-        book: book,
         asked: no_call(),
         after: 0,
         refusal: refusal,
@@ -154,18 +163,16 @@ fn one_less(n: usize) -> usize
     n - 1
 }
 
-// The day with what comes at a place.
-fn day_at(text: &[u8], at: usize, left: usize, count: u64, book: Book) -> Day
-    ensures { λ r. ⌜ r ≡ dayAt (now (text .entry)) at left count book ⌝ }
+// What is due with what comes at a place.
+fn due_at(text: &[u8], at: usize, left: usize) -> Due
+    ensures { λ r. ⌜ r ≡ dueAt (now (text .entry)) at left ⌝ }
 {
     let next = next_at(text, at);
     match next {
-        Next::Ends => day_ended(count, book, 0),
-        Next::Bad(number) => day_ended(count, book, number),
-        Next::Asks(asked, after) => Day {
+        Next::Ends => none_due(0),
+        Next::Bad(number) => none_due(number),
+        Next::Asks(asked, after) => Due {
             left: one_less(left),
-            count: count,
-            book: book,
             asked: asked,
             after: after,
             refusal: 0,
@@ -173,18 +180,43 @@ fn day_at(text: &[u8], at: usize, left: usize, count: u64, book: Book) -> Day
     }
 }
 
-// The day after a call.
-fn day_after(text: &[u8], day: Day, outcome: Outcome) -> Day
-    ensures { λ r. ⌜ r ≡ dayAfter (now (text .entry)) day outcome ⌝ }
+// What is due after a call, by its answer.
+fn due_after(text: &[u8], after: usize, left: usize, place: u64, answer: Answer) -> Due
+    ensures { λ r. ⌜ r ≡ answeredBy (now (text .entry)) after left place answer ⌝ }
 {
-    let answer = outcome.answer;
-    let book = outcome.book;
     match answer {
-        Answer::Accepted => day_at(text, day.after, day.left, outcome.count, book),
-        Answer::Posted(_) => day_at(text, outcome.place as usize, day.left, outcome.count, book),
-        Answer::Refused(refusal) => {
-            day_ended(outcome.count, book, book::refusal_number(refusal))
-        }
+        Answer::Accepted => due_at(text, after, left),
+        Answer::Posted(_) => due_at(text, place as usize, left),
+        Answer::Refused(refusal) => none_due(book::refusal_number(refusal)),
+    }
+}
+
+// What the day's call comes to, where the day is known to be in its ranges.
+fn decided_next(sheet: Sheet, holds: bool, text: &[u8], places: usize, day: Day) -> Decision
+    requires { ⌜ Known sheet holds (day .book) (day .count) places ⌝ }
+    ensures { λ r. ⌜ r ≡ decidedNext sheet (now (text .entry)) day places ⌝ }
+{
+    let asked = day.asked;
+    let book = day.book;
+    let request = book::request_of(sheet, text, asked);
+    book::decide_known(sheet, holds, book, request, day.count, places)
+}
+
+// The day after a call. The book is handed on once, whatever the answer.
+fn day_after(text: &[u8], day: Day, decision: Decision) -> Day
+    ensures { λ r. ⌜ r ≡ dayAfter (now (text .entry)) day (outcomeOf decision) ⌝ }
+{
+    let answer = decision.answer;
+    let due = due_after(text, day.after, day.left, decision.place, answer);
+    let asked = due.asked;
+    let book = decision.book;
+    Day {
+        left: due.left,
+        count: decision.count,
+        book: book,
+        asked: asked,
+        after: due.after,
+        refusal: due.refusal,
     }
 }
 
@@ -192,24 +224,36 @@ fn day_after(text: &[u8], day: Day, outcome: Outcome) -> Day
 fn day_begun(text: &[u8], at: usize) -> Day
     ensures { λ r. ⌜ r ≡ dayAt (now (text .entry)) at (suc (length (now (text .entry)))) 0 emptyBook ⌝ }
 {
-    day_at(text, at, text.len() + 1, 0, state::empty_book())
+    let due = due_at(text, at, text.len() + 1);
+    let asked = due.asked;
+    Day {
+        left: due.left,
+        count: 0,
+        book: state::empty_book(),
+        asked: asked,
+        after: due.after,
+        refusal: due.refusal,
+    }
 }
 
 // One call of the day.
-fn turn(list: &mut [Posting], sheet: Sheet, text: &[u8], day: Day) -> Day
+fn turn(list: &mut [Posting], sheet: Sheet, holds: bool, text: &[u8], day: Day) -> Day
+    requires { ⌜ Reached sheet holds (record { list = now list; day = day }) ⌝ }
     ensures { λ r. ⌜ record { list = now (list .exit); day = r } ≡ turned sheet (now (text .entry)) (record { list = now (list .entry); day = day }) ⌝ }
 {
-    let outcome = journal::call(list, day.count, sheet, day.book, text, day.asked);
-    day_after(text, day, outcome)
+    let decision = decided_next(sheet, holds, text, list.len(), day);
+    journal::append(list, decision.at, decision.plan, decision.n);
+    day_after(text, day, decision)
 }
 
-// The day's calls, over a lent journal.
+// The day's calls, over a lent journal. The sheet is tested once.
 fn carry_out(list: &mut [Posting], sheet: Sheet, text: &[u8], at: usize) -> Day
     ensures { λ r. ⌜ record { list = now (list .exit); day = r } ≡ ranOut sheet (now (text .entry)) (record { list = now (list .entry); day = dayAt (now (text .entry)) at (suc (length (now (text .entry)))) 0 emptyBook }) ⌝ }
 {
+    let holds = sheet::sheet_holds(sheet);
     let mut day = day_begun(text, at);
     while 0 < day.left {
-        day = turn(list, sheet, text, day);
+        day = turn(list, sheet, holds, text, day);
     }
     day
 }

@@ -58,21 +58,25 @@ module _ (l : List Posting) (count : ℕ) where
     abbrev pub decidedBy : Request → Decision
     decidedBy q = decided s b q count (length l) (scannedIn l count 0 0 .good)
 
-    decided-is : (q : Request) → decidedBy q ≡ decidedOn s (record { book = b; count = count; journal = l }) q
-    decided-is q = decided-same s b q count (length l) _ _ (seen-good 0 0)
+    module _ (q : Request) (good : Bool) where
+      abbrev d : Decision
+      d = decided s b q count (length l) good
 
-    posted-is : (q : Request) → posted l (decidedBy q .at) (decidedBy q .plan) (decidedBy q .n) ≡ journalAfter l (decidedBy q)
-    posted-is q =
-        posted-paste l (decidedBy q .at) (decidedBy q .plan) (decidedBy q .n)
-        (decided-fits s b q count (length l) (scannedIn l count 0 0 .good) .1) (decided-rows s b q count (length l) (scannedIn l count 0 0 .good))
+      posted-is : posted l (d .at) (d .plan) (d .n) ≡ journalAfter l d
+      posted-is = posted-paste l (d .at) (d .plan) (d .n) (decided-fits s b q count (length l) good .1) (decided-rows s b q count (length l) good)
 
-    -- a call from its parts
+      -- a call from its parts, by whatever tells whether the postings up to the count hold
+      pub performed-by : (countHolds count (length l) ≡ true → good ≡ postedHold (take count l)) → (zs : List Posting) → zs ≡ posted l (d .at) (d .plan) (d .n)
+          → _≡_ {A = Performed} (record { outcome = outcomeOf d; list = zs }) (performed l count s b q)
+      unfolding performed
+      performed-by tells zs e =
+          ap (λ (z : List Posting). record { outcome = outcomeOf d; list = z }) (e ∙ posted-is)
+          ∙ ap (λ (x : Decision). record { outcome = outcomeOf x; list = journalAfter l x }) (decided-same s b q count (length l) good _ tells)
+
+    -- by the scan
     pub performed-is : (q : Request) (zs : List Posting) → zs ≡ posted l (decidedBy q .at) (decidedBy q .plan) (decidedBy q .n)
         → _≡_ {A = Performed} (record { outcome = outcomeOf (decidedBy q); list = zs }) (performed l count s b q)
-    unfolding performed
-    performed-is q zs e =
-        ap (λ (z : List Posting). record { outcome = outcomeOf (decidedBy q); list = z }) (e ∙ posted-is q)
-        ∙ ap (λ (d : Decision). record { outcome = outcomeOf d; list = journalAfter l d }) (decided-is q)
+    performed-is q zs e = performed-by q (scannedIn l count 0 0 .good) (seen-good 0 0) zs e
 
     -- a call keeps the list's length
     pub length-performed : (q : Request) → length (performed l count s b q .list) ≡ length l

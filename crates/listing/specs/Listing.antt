@@ -6,6 +6,7 @@ use lib.Dec.{eqb}
 use Rattle.decimal.specs.Decimal.{digits, signed}
 use Rattle.text.specs.Bytes.{bytes}
 use Rattle.units.specs.Units.{memberAt}
+use Rattle.energy.specs.declared.HubGrains.{HubGrains}
 use Rattle.settlement.specs.declared.Amounts.{Amounts}
 use Rattle.state.specs.declared.Book.{Book}
 use Rattle.state.specs.Sizes.{hours, places, items}
@@ -44,8 +45,11 @@ unfoldable pub unitLine : (hour unit grains : ℕ) → Amounts → List ℕ
 unitLine hour unit grains a = digits hour ++ (numberField unit ++ (numberField grains ++ (joined items (itemField a) ++ (10 ∷ []))))
 
 -- "a line per unit": the plant's units ascending; place k is that of unit k + 1, hour h that of hour h + 1
-unfoldable pub placeLine : (units : ℕ) → Book → (h k : ℕ) → List ℕ
-placeLine units b h k = cond (memberAt units k) (unitLine (h + 1) (k + 1) (energyAt b h k .0) (amountsAt b h k)) []
+unfoldable pub lineOf : (units h k : ℕ) → HubGrains → Amounts → List ℕ
+lineOf units h k grains a = cond (memberAt units k) (unitLine (h + 1) (k + 1) (grains .0) a) []
+
+abbrev pub placeLine : (units : ℕ) → Book → (h k : ℕ) → List ℕ
+placeLine units b h k = lineOf units h k (energyAt b h k) (amountsAt b h k)
 
 -- "it prints settled hours ascending"
 unfoldable pub hourLines : (units : ℕ) → Book → (h : ℕ) → List ℕ

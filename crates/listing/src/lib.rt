@@ -3,7 +3,7 @@ ghost use mathlib.Core.Path.{_≡_};
 ghost use Prim.Native.Nat.{_+_, _*_, _≤_, _<_};
 ghost use Rattle.state.specs.Sizes.{hours, places, items};
 ghost use Rattle.decimal.specs.Output.{output, written};
-ghost use Rattle.listing.specs.Listing.{mostField, mostLine, mostHour, mostBytes, joined, numberField, itemField, unitLine, placeLine, hourLines, settledLines, refusalLine};
+ghost use Rattle.listing.specs.Listing.{mostField, mostLine, mostHour, mostBytes, joined, numberField, itemField, unitLine, lineOf, placeLine, hourLines, settledLines, refusalLine};
 use energy::HubGrains;
 use settlement::Amounts;
 use state::Book;
@@ -60,19 +60,26 @@ pub fn put_unit_line(
 }
 
 // The line of the unit of place k in hour h, both from 0, where that unit is in the plant.
-fn put_place(out: &mut [u8], at: usize, units: u64, book: Book, h: usize, k: usize) -> usize
+fn put_place(
+    out: &mut [u8],
+    at: usize,
+    units: u64,
+    h: usize,
+    k: usize,
+    grains: HubGrains,
+    amounts: Amounts,
+) -> usize
     requires { ⌜ (h < hours) × (k < places) ⌝ }
-    ensures { λ r. ⌜ output (now (out .exit)) r ≡ written (output (now (out .entry)) at) (placeLine units book h k) ⌝ }
+    ensures { λ r. ⌜ output (now (out .exit)) r ≡ written (output (now (out .entry)) at) (lineOf units h k grains amounts) ⌝ }
     ensures { λ r. ⌜ r ≤ at + mostLine ⌝ }
 {
     if units::member_at(units, k) {
-        let grains = state::energy_at(book, h, k);
-        let amounts = state::amounts_at(book, h, k);
         return put_unit_line(out, at, h as u64 + 1, k as u64 + 1, grains, amounts);
     }
     at
 }
 
+// The lines of hour h. The book is read in place.
 fn put_places(out: &mut [u8], at: usize, units: u64, book: Book, h: usize) -> usize
     requires { ⌜ h < hours ⌝ }
     ensures { λ r. ⌜ output (now (out .exit)) r ≡ written (output (now (out .entry)) at) (joined places (placeLine units book h)) ⌝ }
@@ -81,7 +88,9 @@ fn put_places(out: &mut [u8], at: usize, units: u64, book: Book, h: usize) -> us
     let mut place = at;
     let mut k: usize = 0;
     while k < 8 {
-        place = put_place(out, place, units, book, h, k);
+        let grains = book.energy[8 * h + k];
+        let amounts = book.amounts[8 * h + k];
+        place = put_place(out, place, units, h, k, grains, amounts);
         k += 1;
     }
     place

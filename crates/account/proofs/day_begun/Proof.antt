@@ -5,32 +5,32 @@ use Prim.Native.Nat.{ℕ}
 use native.Mathlib.Numerals.{add-one}
 use lib.ListN.{length}
 use Rattle.state.specs.declared.Book.{Book}
-use Rattle.state.specs.Book.{emptyBook}
-use Rattle.account.specs.Day.{dayAt}
+use Rattle.account.specs.declared.Due.{Due}
+use Rattle.account.specs.Day.{dueAt, dayWith}
 use borrow.Author.Needs.{needs}
 use Rattle.account.proofs.day_begun.Statement.{statement}
 use Rattle.account.proofs.day_begun.Tie as tie
 
-add-day-at : tie.Need-add-day-at
-add-day-at c = search needs
+add-due-at : tie.Need-add-due-at
+add-due-at c = search needs
+
+due-at-requires : tie.Need-due-at-requires
+due-at-requires c κs = search needs
 
 empty-book-requires : tie.Need-empty-book-requires
 empty-book-requires c κs = search needs
 
-day-at-requires : tie.Need-day-at-requires
-day-at-requires c κs = search needs
-
 returns : tie.Need-returns
 returns c =
-    let g = c .before .before .before .args in
-    c .day-at .ensures
-    ∙ ap₂ (λ (n : ℕ) (b : Book). dayAt (g .text .now) (g .at) n 0 b) (add-one (length (g .text .now))) (c .before .empty-book .ensures)
+    let g = c .before .before .before .before .args in
+    ap₂ (λ (x : Due) (b : Book). dayWith 0 b x)
+    (c .before .before .due-at .ensures ∙ ap (λ (n : ℕ). dueAt (g .text .now) (g .at) n) (add-one (length (g .text .now)))) (c .empty-book .ensures)
 
 pub day-begun-spec : {M : Type 1} → statement M
 day-begun-spec =
     tie.close
     (tie.spec
-    add-day-at
+    add-due-at
+    due-at-requires
     empty-book-requires
-    day-at-requires
     returns)

@@ -1,0 +1,27 @@
+-- What a call of the day rests on. The sheet does not change, so 9 is found once; and 12 refuses no call that comes upon what calls from the empty
+-- book on have left.
+use mathlib.Core.Path.{_≡_}
+use mathlib.Core.Bool.{Bool, true}
+use mathlib.Core.List.{List}
+use Prim.Native.Nat.{ℕ}
+use Rattle.sheet.specs.declared.Sheet.{Sheet}
+use Rattle.sheet.specs.Ranges.{sheetHolds}
+use Rattle.postings.specs.declared.Posting.{Posting}
+use Rattle.book.specs.declared.Decision.{Decision}
+use Rattle.book.specs.Ledger.{Call}
+use Rattle.book.specs.Calls.{requestOf, decided, ranFrom, begun as begunState}
+use Rattle.book.specs.Requests.{callFor}
+use Rattle.account.specs.declared.Day.{Day}
+use Rattle.account.specs.Day.{Running, stateOf}
+
+-- the book, the count and the journal are what some calls left, from the empty book and some list of places on; `holds` says whether the sheet is
+-- in its ranges
+pub record Reached (sheet : Sheet) (holds : Bool) (r : Running) : Type 0 where
+  pub journal : List Posting
+  pub calls : List Call
+  pub left : stateOf r ≡ ranFrom sheet (begunState journal) calls .state
+  pub known : holds ≡ sheetHolds sheet
+
+-- what the day's call comes to where 12 does not hold
+abbrev pub decidedNext : Sheet → List ℕ → Day → (places : ℕ) → Decision
+decidedNext s text d places = decided s (d .book) (requestOf s (callFor text (d .asked))) (d .count) places true
