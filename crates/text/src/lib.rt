@@ -266,28 +266,12 @@ fn part_next(parts: usize, p: usize) -> usize
     p + 1
 }
 
-fn stored(number: [u64; 24], at: usize, n: u64) -> [u64; 24]
-    ensures { λ r. ⌜ r ≡ set number at n ⌝ }
+// Stores a number at a place, where there is room for it.
+fn store(number: &mut [u64], at: usize, n: u64)
+    ensures { λ r. ⌜ now (number .exit) ≡ set (now (number .entry)) at n ⌝ }
 {
-    let mut new = number;
-    if at < 24 {
-        new[at] = n;
-        return new;
-    }
-    new
-}
-
-// One number more, where there is room for it.
-fn added(l: Line, n: u64) -> Line
-    requires { ⌜ l .count < 1000 ⌝ }
-    ensures { λ r. ⌜ r ≡ Rattle.text.specs.Rows.added l n ⌝ }
-{
-    let at = l.count;
-    let old = l.number;
-    Line {
-        code: l.code,
-        count: at + 1,
-        number: stored(old, at, n),
+    if at < number.len() {
+        number[at] = n;
     }
 }
 
@@ -298,7 +282,8 @@ fn numbers(value: &[u8], row: Row) -> Line
     let low = row.low;
     let high = row.high;
     let parts = row.parts;
-    let mut l = no_line();
+    let mut number = [0u64; 24];
+    let mut count: usize = 0;
     let mut left = row.most as usize;
     let mut from = 0;
     let mut p = 0;
@@ -307,16 +292,21 @@ fn numbers(value: &[u8], row: Row) -> Line
         let Number::Value(n) = number_in(&value[from..e], bound(low, p), bound(high, p)) else {
             return refused_line(2);
         };
+        store(&mut number, count, n);
+        count += 1;
         if value.len() <= e {
             if p + 1 == parts {
-                return added(l, n);
+                return Line {
+                    code: 0,
+                    count: count,
+                    number: number,
+                };
             }
             return refused_line(2);
         }
         if value[e] != mark_due(parts, p) {
             return refused_line(2);
         }
-        l = added(l, n);
         p = part_next(parts, p);
         from = e + 1;
         left -= 1;
@@ -324,18 +314,18 @@ fn numbers(value: &[u8], row: Row) -> Line
     refused_line(2)
 }
 
-fn element(number: [u64; 24], at: usize) -> u64
-    ensures { λ r. ⌜ r ≡ getD number at 0 ⌝ }
+fn element(number: &[u64], at: usize) -> u64
+    ensures { λ r. ⌜ r ≡ getD (now (number .entry)) at 0 ⌝ }
 {
-    if at < 24 {
+    if at < number.len() {
         return number[at];
     }
     0
 }
 
 // Whether the first numbers of the pairs rise and the second never fall.
-fn rising(number: [u64; 24], count: usize) -> bool
-    ensures { λ r. ⌜ r ≡ Rattle.text.specs.Rows.rising number 0 (count / 2) 0 0 ⌝ }
+fn rising(number: &[u64], count: usize) -> bool
+    ensures { λ r. ⌜ r ≡ Rattle.text.specs.Rows.rising (now (number .entry)) 0 (count / 2) 0 0 ⌝ }
 {
     let mut left = count / 2;
     let mut at = 0;
@@ -382,7 +372,7 @@ pub fn read_value(value: &[u8], row: Row) -> Line
     if row.order == 1 {
         let number = l.number;
         let count = l.count;
-        if rising(number, count) {
+        if rising(&number, count) {
             return l;
         }
         return refused_line(3);
