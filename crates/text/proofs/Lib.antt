@@ -1,4 +1,5 @@
 pub mod Walk
+pub mod Numerals
 pub mod Values
 pub mod Fits
 pub mod Codes

@@ -56,6 +56,10 @@ partNext parts p = cond (last parts p) 0 (p + 1)
 abbrev pub markDue : ℕ → ℕ → ℕ
 markDue parts p = cond (last parts p) 44 58
 
+-- the bytes of the part that begins at a place, up to its mark or the end
+abbrev pub partBytes : List ℕ → ℕ → List ℕ
+partBytes s from = take (seek 58 44 (drop from s)) (drop from s)
+
 -- 01, Energies and sheet: "pairs quantity:price joined by commas"; Hour record: "minutes:kind:cause:capability joined by commas".
 -- The numbers of a value from part p of a group on, of which `left` may still come
 unfoldable pub numbers : List ℕ → List ℕ → ℕ → ℕ → ℕ → List ℕ → Line → Line

@@ -1,14 +1,22 @@
 // One line key=value of a text: its key, the part that is its value, decimal numbers, and the value read by a row,
 // which says what one kind of line may be.
 ghost use mathlib.Core.Path.{_≡_};
-ghost use Prim.Native.Nat.{ℕ, zero, suc, _+_, _-_, _/_, _^_, _≤_, _<_};
-ghost use lib.ListN.{length, take, drop, getD, set};
-ghost use Rattle.text.specs.Text.{seek, valuePart, wordIs, keyIs, leadingZero, atLeast, numberIn};
-ghost use Rattle.text.specs.Rows.{word, numberRow, blankRow, wordRow, noLine, markDue, partNext, valueOf};
+ghost use Prim.Native.Nat.{ℕ, _+_, _*_, _/_, _<_};
+ghost use lib.Dec.{leb};
+ghost use lib.ListN.{drop, getD, set};
+ghost use Rattle.text.specs.declared.Number.the-variants.{Value, Malformed};
+ghost use Rattle.text.specs.Text.{seek, valuePart, wordIs, keyIs, digits, numberIn};
+ghost use Rattle.text.specs.Rows.{word, numberRow, blankRow, wordRow, noLine, markDue, partNext, partBytes, valueOf};
 
 pub enum Number {
     Value(u64),
     Malformed,
+}
+
+// One number of a value, and the place of the mark after it or the end.
+struct Part {
+    number: Number,
+    end: usize,
 }
 
 // One kind of line. A key or a word ends at its '='.
@@ -161,9 +169,19 @@ pub fn word_is(text: &[u8], word: [u8; 10]) -> bool
 pub fn key_is(line: &[u8], key: [u8; 10]) -> bool
     ensures { λ r. ⌜ r ≡ keyIs (now (line .entry)) key ⌝ }
 {
-    let i = find(line, 0, b'=', b'=');
-    if i < line.len() {
-        return word_is(&line[..i], key);
+    let mut i = 0;
+    while i < 10 {
+        if line.len() <= i {
+            return false;
+        }
+        let w = key[i];
+        if line[i] != w {
+            return false;
+        }
+        if w == b'=' {
+            return true;
+        }
+        i += 1;
     }
     false
 }
@@ -174,67 +192,91 @@ fn wide(x: u8) -> u64
     x as u64
 }
 
-fn digits(s: &[u8], high: u64) -> Number
-    ensures { λ r. ⌜ r ≡ Rattle.text.specs.Text.digits high 0 (now (s .entry)) ⌝ }
+fn part_read(n: u64, end: usize) -> Part
+    ensures { λ r. ⌜ r ≡ record { number = Value n; end = end } ⌝ }
+{
+    Part {
+        number: Number::Value(n),
+        end: end,
+    }
+}
+
+fn part_refused() -> Part
+    ensures { λ r. ⌜ r ≡ record { number = Malformed; end = 0 } ⌝ }
+{
+    Part {
+        number: Number::Malformed,
+        end: 0,
+    }
+}
+
+// Whether n with the digit d behind it is at most high.
+fn within(n: u64, d: u64, high: u64) -> bool
+    requires { ⌜ d < 10 ⌝ }
+    ensures { λ r. ⌜ r ≡ leb (n * 10 + d) high ⌝ }
+{
+    if n < 1000000000000000000 {
+        return n * 10 + d <= high;
+    }
+    if high < d {
+        return false;
+    }
+    n <= (high - d) / 10
+}
+
+// The digits of the part that begins at `from`, up to its mark or the end.
+fn digits_at(value: &[u8], from: usize, high: u64) -> Part
+    ensures { λ r. ⌜ r .number ≡ digits high 0 (partBytes (now (value .entry)) from) ⌝ }
+    ensures { λ r. ⌜ ((n : ℕ) → r .number ≡ Value n → r .end ≡ from + seek 58 44 (drop from (now (value .entry)))) ⌝ }
 {
     let mut n: u64 = 0;
-    let mut i: usize = 0;
-    while i < s.len() {
-        let x = s[i];
+    let mut i = from;
+    while i < value.len() {
+        let x = value[i];
         if x < b'0' {
-            return Number::Malformed;
+            if x == b',' {
+                return part_read(n, i);
+            }
+            return part_refused();
         }
         if b'9' < x {
-            return Number::Malformed;
+            if x == b':' {
+                return part_read(n, i);
+            }
+            return part_refused();
         }
         let d = wide(x - 48);
-        if high < d {
-            return Number::Malformed;
-        }
-        if (high - d) / 10 < n {
-            return Number::Malformed;
+        if !within(n, d, high) {
+            return part_refused();
         }
         n = n * 10 + d;
         i += 1;
     }
-    Number::Value(n)
+    part_read(n, i)
 }
 
-fn leading_zero(s: &[u8]) -> bool
-    ensures { λ r. ⌜ r ≡ leadingZero (now (s .entry)) ⌝ }
+// The decimal number of the part that begins at `from`: from low to high, with no leading zero.
+fn part_at(value: &[u8], from: usize, low: u64, high: u64) -> Part
+    ensures { λ r. ⌜ r .number ≡ numberIn low high (partBytes (now (value .entry)) from) ⌝ }
+    ensures { λ r. ⌜ ((n : ℕ) → r .number ≡ Value n → r .end ≡ from + seek 58 44 (drop from (now (value .entry)))) ⌝ }
 {
-    if s.len() < 2 {
-        return false;
+    let d = digits_at(value, from, high);
+    let number = d.number;
+    let Number::Value(n) = number else {
+        return part_refused();
+    };
+    if d.end <= from {
+        return part_refused();
     }
-    s[0] == b'0'
-}
-
-fn at_least(n: Number, low: u64) -> Number
-    ensures { λ r. ⌜ r ≡ atLeast low n ⌝ }
-{
-    match n {
-        Number::Value(x) => {
-            if x < low {
-                Number::Malformed
-            } else {
-                Number::Value(x)
-            }
+    if from + 1 < d.end {
+        if value[from] == b'0' {
+            return part_refused();
         }
-        Number::Malformed => Number::Malformed,
     }
-}
-
-// A decimal number from low to high, with no leading zero.
-pub fn number_in(s: &[u8], low: u64, high: u64) -> Number
-    ensures { λ r. ⌜ r ≡ numberIn low high (now (s .entry)) ⌝ }
-{
-    if s.len() == 0 {
-        return Number::Malformed;
+    if n < low {
+        return part_refused();
     }
-    if leading_zero(s) {
-        return Number::Malformed;
-    }
-    at_least(digits(s, high), low)
+    d
 }
 
 fn bound(limits: [u64; 4], p: usize) -> u64
@@ -288,8 +330,10 @@ fn numbers(value: &[u8], row: Row) -> Line
     let mut from = 0;
     let mut p = 0;
     while 0 < left {
-        let e = find(value, from, b':', b',');
-        let Number::Value(n) = number_in(&value[from..e], bound(low, p), bound(high, p)) else {
+        let part = part_at(value, from, bound(low, p), bound(high, p));
+        let e = part.end;
+        let read = part.number;
+        let Number::Value(n) = read else {
             return refused_line(2);
         };
         store(&mut number, count, n);
