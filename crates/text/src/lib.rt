@@ -279,11 +279,12 @@ fn part_at(value: &[u8], from: usize, low: u64, high: u64) -> Part
     d
 }
 
-fn bound(limits: [u64; 4], p: usize) -> u64
-    ensures { λ r. ⌜ r ≡ getD limits p 0 ⌝ }
+// The number at a place, 0 past the end.
+fn element(number: &[u64], at: usize) -> u64
+    ensures { λ r. ⌜ r ≡ getD (now (number .entry)) at 0 ⌝ }
 {
-    if p < 4 {
-        return limits[p];
+    if at < number.len() {
+        return number[at];
     }
     0
 }
@@ -330,7 +331,7 @@ fn numbers(value: &[u8], row: Row) -> Line
     let mut from = 0;
     let mut p = 0;
     while 0 < left {
-        let part = part_at(value, from, bound(low, p), bound(high, p));
+        let part = part_at(value, from, element(&low, p), element(&high, p));
         let e = part.end;
         let read = part.number;
         let Number::Value(n) = read else {
@@ -356,15 +357,6 @@ fn numbers(value: &[u8], row: Row) -> Line
         left -= 1;
     }
     refused_line(2)
-}
-
-fn element(number: &[u64], at: usize) -> u64
-    ensures { λ r. ⌜ r ≡ getD (now (number .entry)) at 0 ⌝ }
-{
-    if at < number.len() {
-        return number[at];
-    }
-    0
 }
 
 // Whether the first numbers of the pairs rise and the second never fall.
