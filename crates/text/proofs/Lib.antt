@@ -3,5 +3,6 @@ pub mod Numerals
 pub mod Values
 pub mod Fits
 pub mod Codes
+pub mod Heads
 pub mod Parts
 pub mod Pairs

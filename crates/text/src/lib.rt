@@ -3,10 +3,10 @@
 ghost use mathlib.Core.Path.{_≡_};
 ghost use Prim.Native.Nat.{ℕ, _+_, _*_, _/_, _<_};
 ghost use lib.Dec.{leb};
-ghost use lib.ListN.{drop, getD, set};
+ghost use lib.ListN.{drop, getD, set, replicate};
 ghost use Rattle.text.specs.declared.Number.the-variants.{Value, Malformed};
 ghost use Rattle.text.specs.Text.{seek, valuePart, wordIs, keyIs, digits, numberIn};
-ghost use Rattle.text.specs.Rows.{word, numberRow, blankRow, wordRow, noLine, markDue, partNext, partBytes, valueOf};
+ghost use Rattle.text.specs.Rows.{word, numberRow, blankRow, wordRow, noLine, markDue, partNext, partBytes, valueOf, Held};
 
 pub enum Number {
     Value(u64),
@@ -41,6 +41,12 @@ pub struct Line {
     pub code: u64,
     pub count: usize,
     pub number: [u64; 24],
+}
+
+// What stands in a line beside its numbers: the code and the count.
+pub struct Head {
+    pub code: u64,
+    pub count: usize,
 }
 
 // key=number, from low to high.
@@ -319,13 +325,13 @@ fn store(number: &mut [u64], at: usize, n: u64)
 }
 
 // The numbers of a value: a group's numbers are joined by ':', groups by ','.
-fn numbers(value: &[u8], row: Row) -> Line
-    ensures { λ r. ⌜ r ≡ Rattle.text.specs.Rows.numbers (row .low) (row .high) (row .parts) (row .most) 0 (now (value .entry)) (noLine 0) ⌝ }
+fn numbers(value: &[u8], row: Row, number: &mut [u64]) -> Head
+    requires { ⌜ now number ≡ replicate 24 0 ⌝ }
+    ensures { λ r. ⌜ Held r (now (number .exit)) (Rattle.text.specs.Rows.numbers (row .low) (row .high) (row .parts) (row .most) 0 (now (value .entry)) (noLine 0)) ⌝ }
 {
     let low = row.low;
     let high = row.high;
     let parts = row.parts;
-    let mut number = [0u64; 24];
     let mut count: usize = 0;
     let mut left = row.most as usize;
     let mut from = 0;
@@ -335,28 +341,27 @@ fn numbers(value: &[u8], row: Row) -> Line
         let e = part.end;
         let read = part.number;
         let Number::Value(n) = read else {
-            return refused_line(2);
+            return Head { code: 2, count: 0 };
         };
-        store(&mut number, count, n);
+        store(number, count, n);
         count += 1;
         if value.len() <= e {
             if p + 1 == parts {
-                return Line {
+                return Head {
                     code: 0,
                     count: count,
-                    number: number,
                 };
             }
-            return refused_line(2);
+            return Head { code: 2, count: 0 };
         }
         if value[e] != mark_due(parts, p) {
-            return refused_line(2);
+            return Head { code: 2, count: 0 };
         }
         p = part_next(parts, p);
         from = e + 1;
         left -= 1;
     }
-    refused_line(2)
+    Head { code: 2, count: 0 }
 }
 
 // Whether the first numbers of the pairs rise and the second never fall.
@@ -384,34 +389,50 @@ fn rising(number: &[u64], count: usize) -> bool
     true
 }
 
-// A value by its row.
-pub fn read_value(value: &[u8], row: Row) -> Line
-    ensures { λ r. ⌜ r ≡ valueOf row (now (value .entry)) ⌝ }
+// A value by its row, its numbers stored in a list of 24 zeros.
+pub fn value_into(value: &[u8], row: Row, number: &mut [u64]) -> Head
+    requires { ⌜ now number ≡ replicate 24 0 ⌝ }
+    ensures { λ r. ⌜ Held r (now (number .exit)) (valueOf row (now (value .entry))) ⌝ }
 {
     if row.parts == 0 {
         let word = row.word;
         if word_is(value, word) {
-            return no_line();
+            return Head { code: 0, count: 0 };
         }
-        return refused_line(2);
+        return Head { code: 2, count: 0 };
     }
     if value.len() == 0 {
         if row.blank == 1 {
-            return no_line();
+            return Head { code: 0, count: 0 };
         }
-        return refused_line(2);
+        return Head { code: 2, count: 0 };
     }
-    let l = numbers(value, row);
-    if l.code != 0 {
-        return l;
+    let h = numbers(value, row, number);
+    if h.code != 0 {
+        return h;
     }
     if row.order == 1 {
-        let number = l.number;
-        let count = l.count;
-        if rising(&number, count) {
-            return l;
+        let count = h.count;
+        if rising(number, count) {
+            return h;
         }
-        return refused_line(3);
+        return Head { code: 3, count: 0 };
     }
-    l
+    h
+}
+
+// A value by its row.
+pub fn read_value(value: &[u8], row: Row) -> Line
+    ensures { λ r. ⌜ r ≡ valueOf row (now (value .entry)) ⌝ }
+{
+    let mut number = [0u64; 24];
+    let h = value_into(value, row, &mut number);
+    if h.code != 0 {
+        return refused_line(h.code);
+    }
+    Line {
+        code: 0,
+        count: h.count,
+        number: number,
+    }
 }
