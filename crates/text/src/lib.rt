@@ -216,7 +216,7 @@ fn part_refused() -> Part
     }
 }
 
-// Whether n with the digit d behind it is at most high.
+// Whether n with the digit d behind it is at most high. Below 10^18 the two make a machine number.
 fn within(n: u64, d: u64, high: u64) -> bool
     requires { ⌜ d < 10 ⌝ }
     ensures { λ r. ⌜ r ≡ leb (n * 10 + d) high ⌝ }
