@@ -17,47 +17,22 @@ use Rattle.text.specs.Text.{seek, before, has, valuePart, keyIs}
 use Rattle.text.specs.Rows.{noLine, valueOf}
 use Rattle.text.specs.declared.Row.{Row}
 use Rattle.text.specs.declared.Line.{Line}
-use Rattle.lines.specs.declared.LineRead.{LineRead}
-use Rattle.lines.specs.Lines.{lineAt, placeAfter, lineRead, Reading, readLine, readBy}
+use Rattle.lines.specs.Lines.{lineBy, lineAt, placeAfter, Reading, readLine, readBy}
 
 -- the line at a place, whose LF is looked for from there and found at e
-module _ (text : List ℕ) (at : ℕ) (row : Row) where
-  pub good-line : (l : Line) → l ≡ lineAt text at row → l .code ≡ 0
-      → _≡_ {A = LineRead} (record { line = l; next = placeAfter text at }) (lineRead text at row)
-  good-line l e good =
-      let c : lineAt text at row .code ≡ 0 = ap (λ (x : Line). x .code) (sym e) ∙ good in
-      simp (eq-eqb _ _ c) (ap {B = LineRead} (λ (x : Line). record { line = x; next = placeAfter text at }) e)
+module _ (text : List ℕ) (at : ℕ) (row : Row) (e : ℕ) (he : e ≡ at + seek 10 10 (drop at text)) where
+  pub unended : length text ≤ e → noLine 4 ≡ lineAt text at row
+  unfolding lineAt
+  unended h =
+      let n : length (drop at text) ≤ seek 10 10 (drop at text) = omega (arith, length-drop at text) in
+      simp (le-ltb _ _ n)
 
-  pub bad-line : (l : Line) → l ≡ lineAt text at row → (l .code ≡ 0 → ⊥)
-      → _≡_ {A = LineRead} (record { line = l; next = at }) (lineRead text at row)
-  bad-line l e bad =
-      let c : lineAt text at row .code ≡ 0 → ⊥ = λ q. bad (ap (λ (x : Line). x .code) e ∙ q) in
-      simp (ne-eqb _ _ c) (ap {B = LineRead} (λ (x : Line). record { line = x; next = at }) e)
-
-  module _ (e : ℕ) (he : e ≡ at + seek 10 10 (drop at text)) where
-    pub unended : length text ≤ e → noLine 4 ≡ lineAt text at row
-    unfolding lineAt
-    unended h =
-        let n : length (drop at text) ≤ seek 10 10 (drop at text) = omega (arith, length-drop at text) in
-        simp (le-ltb _ _ n)
-
-    module _ (short : e < length text) where
-      ends : seek 10 10 (drop at text) < length (drop at text)
-      ends = omega (arith, length-drop at text)
-
-      whole : take (e - at) (drop at text) ≡ before 10 (drop at text)
-      whole = let n : e - at ≡ seek 10 10 (drop at text) = omega arith in ap (λ (k : ℕ). take k (drop at text)) n
-
-      pub other-key : keyIs (take (e - at) (drop at text)) (row .key) ≡ false → noLine 1 ≡ lineAt text at row
-      unfolding lineAt
-      other-key k = simp (lt-ltb _ _ ends, ap (λ (x : List ℕ). keyIs x (row .key)) (sym whole) ∙ k)
-
-      pub due-key : keyIs (take (e - at) (drop at text)) (row .key) ≡ true
-          → valueOf row (valuePart (take (e - at) (drop at text))) ≡ lineAt text at row
-      unfolding lineAt
-      due-key k =
-          simp (lt-ltb _ _ ends, ap (λ (x : List ℕ). keyIs x (row .key)) (sym whole) ∙ k)
-          (ap (λ (x : List ℕ). valueOf row (valuePart x)) whole)
+  pub ended-line : e < length text → lineBy (take (e - at) (drop at text)) row ≡ lineAt text at row
+  unfolding lineAt
+  ended-line h =
+      let short : seek 10 10 (drop at text) < length (drop at text) = omega (arith, length-drop at text) in
+      let n : e - at ≡ seek 10 10 (drop at text) = omega arith in
+      simp (lt-ltb _ _ short) (ap (λ (k : ℕ). lineBy (take k (drop at text)) row) n)
 
 -- the next line: nothing where the reading is refused; else the line is taken in, or the reading is refused
 module _ (text : List ℕ) (row : Row) (s : Reading) where

@@ -8,24 +8,19 @@ use Rattle.text.specs.Text.{seek, before, has, valuePart, keyIs}
 use Rattle.text.specs.Rows.{noLine, valueOf}
 use Rattle.text.specs.declared.Row.{Row}
 use Rattle.text.specs.declared.Line.{Line}
-use Rattle.lines.specs.declared.LineRead.{LineRead}
 
--- 01, Book and journal, below the table: "the first bad line by 4, 1, 2, 3". The line at a place, or its refusal: 4 where the text ends
--- inside it or before it, 1 where it is not key=value with the key due, 2 or 3 by its value
+-- 01, Book and journal, below the table: "the first bad line by 4, 1, 2, 3". A line without its LF, or its refusal: 1 where it is not
+-- key=value with the key due, 2 or 3 by its value
+abbrev pub lineBy : List ℕ → Row → Line
+lineBy line row = cond (keyIs line (row .key)) (valueOf row (valuePart line)) (noLine 1)
+
+-- the line at a place, or 4 where the text ends inside it or before it
 unfoldable pub lineAt : List ℕ → ℕ → Row → Line
-lineAt text at row =
-    let rest = drop at text in
-    cond (has 10 rest) (cond (keyIs (before 10 rest) (row .key)) (valueOf row (valuePart (before 10 rest))) (noLine 1)) (noLine 4)
+lineAt text at row = let rest = drop at text in cond (has 10 rest) (lineBy (before 10 rest) row) (noLine 4)
 
 -- the place after the line that begins at a place: lines are ended by LF
 abbrev pub placeAfter : List ℕ → ℕ → ℕ
 placeAfter text at = at + seek 10 10 (drop at text) + 1
-
--- the line at a place and the place after it, the same place where it is refused
-abbrev pub lineRead : List ℕ → ℕ → Row → LineRead
-lineRead text at row =
-    let l = lineAt text at row in
-    record { line = l; next = cond (eqb (l .code) 0) (placeAfter text at) at }
 
 -- how far a text is read: the refusal or 0, the place of the line due, and the lines read before it
 pub record Reading : Type 0 where

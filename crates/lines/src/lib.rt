@@ -2,11 +2,12 @@
 // 25 cells for each line: first how many numbers the line has, then its 24 numbers.
 ghost use mathlib.Core.Path.{_≡_};
 ghost use Prim.Native.Nat.{_+_, _^_, _≤_, _<_};
-ghost use lib.ListN.{length, getD};
-ghost use Rattle.lines.specs.Lines.{Reading, lineRead, readLine};
+ghost use lib.ListN.{length, getD, replicate};
+ghost use Rattle.text.specs.Rows.{Held};
+ghost use Rattle.lines.specs.Lines.{Reading, lineBy, readLine};
 ghost use Rattle.lines.specs.Cells.{lineIn, withLine, Shows};
 ghost use Rattle.lines.specs.Refusals.{textNumber, textLine, textRefusal, badStart, answerOf};
-use text::Line;
+use text::Head;
 use text::Row;
 
 // Why a text is refused, with the line: document 01's numbers 1 to 4.
@@ -25,12 +26,6 @@ pub enum TextRefusal {
 pub enum ReadAnswer {
     Read(u64),
     Refused(TextRefusal),
-}
-
-// A line, and the place after it.
-pub struct LineRead {
-    pub line: Line,
-    pub next: usize,
 }
 
 // How far a text is read: the refusal's number or 0, the place of the line due, and how many lines were read before it.
@@ -100,40 +95,22 @@ pub fn answer_of(start: usize, c: Cursor) -> ReadAnswer
     ReadAnswer::Refused(text_refusal(c.refusal, c.lines as u64 + 1))
 }
 
-// The line at a place of a text, by its row.
-pub fn line_at(text: &[u8], at: usize, row: Row) -> LineRead
-    ensures { λ r. ⌜ r ≡ lineRead (now (text .entry)) at row ⌝ }
+// A line without its LF, by its row, its numbers stored in a list of 24 zeros.
+fn line_into(line: &[u8], row: Row, number: &mut [u64]) -> Head
+    requires { ⌜ now number ≡ replicate 24 0 ⌝ }
+    ensures { λ r. ⌜ Held r (now (number .exit)) (lineBy (now (line .entry)) row) ⌝ }
 {
-    let e = text::find(text, at, b'\n', b'\n');
-    if text.len() <= e {
-        return LineRead {
-            line: text::refused_line(4),
-            next: at,
-        };
-    }
-    let whole = &text[at..e];
     let key = row.key;
-    if text::key_is(whole, key) {
-        let l = text::read_value(text::value_of(whole), row);
-        if l.code == 0 {
-            return LineRead {
-                line: l,
-                next: e + 1,
-            };
-        }
-        return LineRead { line: l, next: at };
+    if text::key_is(line, key) {
+        return text::value_into(text::value_of(line), row, number);
     }
-    LineRead {
-        line: text::refused_line(1),
-        next: at,
-    }
+    Head { code: 1, count: 0 }
 }
 
 // Stores the numbers of line k, where there is room for them.
-fn keep(cells: &mut [u64], k: usize, count: usize, number: [u64; 24])
-    requires { ⌜ k < 2 ^ 32 ⌝ }
-    ensures { λ r. ⌜ now (cells .exit) ≡ withLine (now (cells .entry)) k count number ⌝ }
-    ensures { λ r. ⌜ length number ≡ 24 ⌝ }
+fn keep(cells: &mut [u64], k: usize, count: usize, number: &[u64])
+    requires { ⌜ (k < 2 ^ 32) × (length (now number) ≡ 24) ⌝ }
+    ensures { λ r. ⌜ now (cells .exit) ≡ withLine (now (cells .entry)) k count (now (number .entry)) ⌝ }
 {
     let at = 25 * k;
     if cells.len() < at + 25 {
@@ -193,21 +170,27 @@ pub fn read_line(text: &[u8], row: Row, c: Cursor, cells: &mut [u64]) -> Cursor
     }
     let at = c.at;
     let k = c.lines;
-    let read = line_at(text, at, row);
-    let line = read.line;
-    let next = read.next;
-    if line.code != 0 {
+    let e = text::find(text, at, b'\n', b'\n');
+    if text.len() <= e {
         return Cursor {
-            refusal: line.code,
+            refusal: 4,
             at: at,
             lines: k,
         };
     }
-    let number = line.number;
-    keep(cells, k, line.count, number);
+    let mut number = [0u64; 24];
+    let h = line_into(&text[at..e], row, &mut number);
+    if h.code != 0 {
+        return Cursor {
+            refusal: h.code,
+            at: at,
+            lines: k,
+        };
+    }
+    keep(cells, k, h.count, &number);
     Cursor {
         refusal: 0,
-        at: next,
+        at: e + 1,
         lines: k + 1,
     }
 }

@@ -36,7 +36,7 @@ use Rattle.record.proofs.InRange.{UnitInRange, InRange}
 
 -- the cells that show a good reading make its record
 pub shown-record : (text cells : List ℕ) (units : ℕ) (monthly : List GrossKwh) (c : Cursor) → units < 2 ^ 64 → Shows cells c (readLines text (ones units))
-    → c .refusal ≡ 0 → 3000 ≤ length cells → recordBy (lineIn cells) units monthly ≡ recordBy (lineOf (readLines text (ones units) .lines)) units monthly
+    → c .refusal ≡ 0 → 2100 ≤ length cells → recordBy (lineIn cells) units monthly ≡ recordBy (lineOf (readLines text (ones units) .lines)) units monthly
 shown-record text cells units monthly c fits shown good room =
     let all = whole text (ones units) (sym (shown .refusal-is) ∙ good) in
     sym (record-same (lineOf (readLines text (ones units) .lines)) (lineIn cells) units monthly fits

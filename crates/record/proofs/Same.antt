@@ -43,7 +43,7 @@ module _ (f g : ℕ → Line) where
       }
 
   -- they agree on the head and on the blocks of the plant's units
-  module _ (units : ℕ) (monthly : List GrossKwh) (fits : units < 2 ^ 64) (agree : (k : ℕ) → k < 120 → k < headLines + unitLines * ones units → f k ≡ g k) where
+  module _ (units : ℕ) (monthly : List GrossKwh) (fits : units < 2 ^ 64) (agree : (k : ℕ) → k < 84 → k < headLines + unitLines * ones units → f k ≡ g k) where
     place-same : (k : ℕ) → k < 8 → placeBy f units monthly k ≡ placeBy g units monthly k
     place-same k l = by (memberAt units k) refl
       where

@@ -317,7 +317,7 @@ pub fn read_record(text: &[u8], start: u64, units: u64, monthly: [GrossKwh; 8]) 
     }
     let at = start as usize;
     let n = units::unit_count(units) as usize;
-    let mut cells = [0u64; 3000];
+    let mut cells = [0u64; 2100];
     let c = read_lines(&text[at..], n, &mut cells);
     if c.refusal == 0 {
         return RecordRead {

@@ -37,14 +37,8 @@ module _ (low high : List ℕ) (parts k p : ℕ) (s : List ℕ) (l : Line) where
     unfolding numbers
     more h q = simp (e, lt-ltb _ _ h, eq-eqb _ _ q)
 
--- what the code has of the number at `from`, which ends at e
-module _ (low high : List ℕ) (p : ℕ) (v : List ℕ) (from e : ℕ) (he : e ≡ from + seek 58 44 (drop from v)) where
-  pub found : (r : Number) (b c : ℕ) → b ≡ getD low p 0 → c ≡ getD high p 0 → r ≡ numberIn b c (take (e - from) (drop from v))
-      → numberIn (getD low p 0) (getD high p 0) (take (seek 58 44 (drop from v)) (drop from v)) ≡ r
-  found r b c hb hc hr =
-      let h : e - from ≡ seek 58 44 (drop from v) = omega arith in
-      cc
-
+-- the number at `from`, which ends at e
+module _ (v : List ℕ) (from e : ℕ) (he : e ≡ from + seek 58 44 (drop from v)) where
   pub at-mark : getD (drop from v) (seek 58 44 (drop from v)) 0 ≡ getD v e 0
   at-mark = getD-drop from v (seek 58 44 (drop from v)) 0 ∙ ap (λ (k : ℕ). getD v k 0) (sym he)
 

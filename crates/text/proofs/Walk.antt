@@ -6,13 +6,14 @@ use mathlib.Core.List.{List, [], _∷_}
 use Prim.Native.Nat.{ℕ, suc, _+_, _*_, _-_, _≤_, _<_}
 use native.Mathlib.Omega.{arith}
 use native.Mathlib.Numerals.{add-one}
-use borrow.Author.Tests.{le-ltb, lt-ltb, lt-leb, le-leb, ne-eqb, eq-eqb}
-use lib.Dec.{eqb}
+use borrow.Author.Tests.{le-ltb, lt-ltb, ne-eqb, eq-eqb, ltb-true, ltb-false, eqb-true}
+use lib.Dec.{ltb, eqb}
 use lib.ListN.{length, drop, getD, take, length-drop, drop-of-length-le}
 use lib.Seq.{drop-cons, take-all}
 use Rattle.text.specs.declared.Number.{Number}
 use Rattle.text.specs.declared.Number.the-variants.{Value, Malformed}
-use Rattle.text.specs.Text.{seek, wordIs, digits}
+use Rattle.text.specs.Text.{seek, has, wordIs, keyIs, digits}
+use Rattle.text.specs.Rows.{partBytes}
 
 -- a part that goes to the end is what is left
 pub rest : (l : List ℕ) (i : ℕ) → take (length l - i) (drop i l) ≡ drop i l
@@ -48,22 +49,36 @@ module _ (l : List ℕ) (i : ℕ) (h : i < length l) where
   unfolding seek
   seek-on a b n m = ap (seek a b) left ∙ simp (ne-eqb _ _ n, ne-eqb _ _ m)
 
-  pub low : (high n : ℕ) → getD l i 0 < 48 → digits high n (drop i l) ≡ Malformed
-  unfolding digits
-  low high n e = ap (digits high n) left ∙ simp (lt-ltb _ _ e)
+  -- the bytes of a part, whose mark or first byte stands here
+  pub bytes-at-colon : getD l i 0 ≡ 58 → partBytes l i ≡ []
+  bytes-at-colon e = ap (λ (k : ℕ). take k (drop i l)) (seek-first 58 44 e)
 
-  pub up : (high n : ℕ) → 48 ≤ getD l i 0 → 57 < getD l i 0 → digits high n (drop i l) ≡ Malformed
-  unfolding digits
-  up high n e f = ap (digits high n) left ∙ simp (le-ltb _ _ e, lt-ltb _ _ f)
+  pub bytes-at-comma : getD l i 0 ≡ 44 → partBytes l i ≡ []
+  bytes-at-comma e = ap (λ (k : ℕ). take k (drop i l)) (seek-second 58 44 (λ q. omega arith) e)
 
-  pub large : (high n : ℕ) → 48 ≤ getD l i 0 → getD l i 0 ≤ 57 → high < n * 10 + (getD l i 0 - 48) → digits high n (drop i l) ≡ Malformed
-  unfolding digits
-  large high n e f g = ap (digits high n) left ∙ simp (le-ltb _ _ e, le-ltb _ _ f, lt-ltb _ _ g)
+  pub bytes-on : (getD l i 0 ≡ 58 → ⊥) → (getD l i 0 ≡ 44 → ⊥) → partBytes l i ≡ getD l i 0 ∷ partBytes l (i + 1)
+  bytes-on n m = ap (λ (k : ℕ). take k (drop i l)) (seek-on 58 44 n m) ∙ ap (take (suc (seek 58 44 (drop (i + 1) l)))) left
 
-  pub digit : (high n : ℕ) → 48 ≤ getD l i 0 → getD l i 0 ≤ 57 → n * 10 + (getD l i 0 - 48) ≤ high
-      → digits high n (drop i l) ≡ digits high (n * 10 + (getD l i 0 - 48)) (drop (i + 1) l)
+pub bytes-end : (l : List ℕ) (i : ℕ) → length l ≤ i → partBytes l i ≡ []
+bytes-end l i h = ap (λ (k : ℕ). take k (drop i l)) (seek-end 58 44 l i h)
+
+-- one byte of a number
+module _ (high n x : ℕ) (xs : List ℕ) where
+  pub low : x < 48 → digits high n (x ∷ xs) ≡ Malformed
   unfolding digits
-  digit high n e f g = ap (digits high n) left ∙ simp (le-ltb _ _ e, le-ltb _ _ f, le-ltb _ _ g)
+  low e = simp (lt-ltb _ _ e)
+
+  pub up : 48 ≤ x → 57 < x → digits high n (x ∷ xs) ≡ Malformed
+  unfolding digits
+  up e f = simp (le-ltb _ _ e, lt-ltb _ _ f)
+
+  pub large : 48 ≤ x → x ≤ 57 → high < n * 10 + (x - 48) → digits high n (x ∷ xs) ≡ Malformed
+  unfolding digits
+  large e f g = simp (le-ltb _ _ e, le-ltb _ _ f, lt-ltb _ _ g)
+
+  pub digit : 48 ≤ x → x ≤ 57 → n * 10 + (x - 48) ≤ high → digits high n (x ∷ xs) ≡ digits high (n * 10 + (x - 48)) xs
+  unfolding digits
+  digit e f g = simp (le-ltb _ _ e, le-ltb _ _ f, le-ltb _ _ g)
 
 module _ (s w : List ℕ) (i : ℕ) (h : i < length w) where
   pub word-end : getD w i 0 ≡ 61 → length s ≡ i → wordIs (drop i s) (drop i w) ≡ true
@@ -89,3 +104,62 @@ module _ (s w : List ℕ) (i : ℕ) (h : i < length w) where
 pub word-none : (s w : List ℕ) (i : ℕ) → length w ≤ i → wordIs (drop i s) (drop i w) ≡ false
 unfolding wordIs
 word-none s w i h = rw (drop-of-length-le w {i = i} h)
+
+-- a line and a key, byte by byte
+neither : (t : Bool) → cond t false false ≡ false
+neither true = refl
+neither false = refl
+
+one-more : (a b : ℕ) → ltb (suc a) (suc b) ≡ ltb a b
+one-more a b = by (ltb a b) refl
+  where
+    by : (t : Bool) → ltb a b ≡ t → ltb (suc a) (suc b) ≡ t
+    by true e = lt-ltb (suc a) (suc b) (omega (arith, ltb-true a b e))
+    by false e = le-ltb (suc a) (suc b) (omega (arith, ltb-false a b e))
+
+module _ (x : ℕ) (xs : List ℕ) (y : ℕ) (ys : List ℕ) where
+  differs : (x ≡ y → ⊥) → keyIs (x ∷ xs) (y ∷ ys) ≡ false
+  unfolding seek wordIs
+  differs n = by (eqb x 61) refl
+    where
+      by : (t : Bool) → eqb x 61 ≡ t
+          → cond (ltb (cond t 0 (cond t 0 (suc (seek 61 61 xs)))) (suc (length xs)))
+          (wordIs (take (cond t 0 (cond t 0 (suc (seek 61 61 xs)))) (x ∷ xs)) (y ∷ ys)) false ≡ false
+      by true e = simp (ne-eqb y 61 (λ q. n (eqb-true x 61 e ∙ sym q)), neither)
+      by false e = simp (ne-eqb x y n, neither)
+
+  ends : x ≡ 61 → y ≡ 61 → keyIs (x ∷ xs) (y ∷ ys) ≡ true
+  unfolding seek wordIs
+  ends e f = simp (eq-eqb x 61 e, eq-eqb y 61 f, lt-ltb 0 (suc (length xs)) (omega arith))
+
+  agrees : x ≡ y → (y ≡ 61 → ⊥) → keyIs (x ∷ xs) (y ∷ ys) ≡ keyIs xs ys
+  unfolding seek wordIs
+  agrees e n = by (eqb x 61) (ne-eqb x 61 (λ q. n (sym e ∙ q)))
+    where
+      by : (t : Bool) → t ≡ false
+          → cond (ltb (cond t 0 (cond t 0 (suc (seek 61 61 xs)))) (suc (length xs)))
+          (wordIs (take (cond t 0 (cond t 0 (suc (seek 61 61 xs)))) (x ∷ xs)) (y ∷ ys)) false ≡ keyIs xs ys
+      by true q = absurd (let z : _≡_ {A = ℕ} 0 1 = cc in omega arith)
+      by false q = simp (ne-eqb y 61 n, eq-eqb x y e, one-more (seek 61 61 xs) (length xs))
+
+module _ (s w : List ℕ) (i : ℕ) where
+  pub key-none : length w ≤ i → keyIs (drop i s) (drop i w) ≡ false
+  unfolding wordIs
+  key-none h = rw (drop-of-length-le w {i = i} h) (neither (has 61 (drop i s)))
+
+  pub key-short : length s ≤ i → keyIs (drop i s) (drop i w) ≡ false
+  unfolding seek
+  key-short h = rw (drop-of-length-le s {i = i} h)
+
+  module _ (h : i < length w) (k : i < length s) where
+    both : keyIs (drop i s) (drop i w) ≡ keyIs (getD s i 0 ∷ drop (i + 1) s) (getD w i 0 ∷ drop (i + 1) w)
+    both = rw (left s i k, left w i h)
+
+    pub key-other : (getD s i 0 ≡ getD w i 0 → ⊥) → keyIs (drop i s) (drop i w) ≡ false
+    key-other n = both ∙ differs (getD s i 0) (drop (i + 1) s) (getD w i 0) (drop (i + 1) w) n
+
+    pub key-end : getD s i 0 ≡ getD w i 0 → getD w i 0 ≡ 61 → keyIs (drop i s) (drop i w) ≡ true
+    key-end e f = both ∙ ends (getD s i 0) (drop (i + 1) s) (getD w i 0) (drop (i + 1) w) (e ∙ f) f
+
+    pub key-on : getD s i 0 ≡ getD w i 0 → (getD w i 0 ≡ 61 → ⊥) → keyIs (drop i s) (drop i w) ≡ keyIs (drop (i + 1) s) (drop (i + 1) w)
+    key-on e n = both ∙ agrees (getD s i 0) (drop (i + 1) s) (getD w i 0) (drop (i + 1) w) e n

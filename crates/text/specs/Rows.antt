@@ -1,4 +1,5 @@
 -- A row says what one kind of line may be; a value is read by its row. 58 is ':', 44 is ','.
+use mathlib.Core.Path.{_≡_}
 use Prim.Native.Nat.{ℕ, zero, suc, _+_, _*_, _-_, _/_}
 use Prim.Native.String.{String}
 use mathlib.Core.Bool.{Bool, true, false, cond}
@@ -11,6 +12,7 @@ use Rattle.text.specs.declared.Number.{Number}
 use Rattle.text.specs.declared.Number.the-variants.{Value, Malformed}
 use Rattle.text.specs.declared.Row.{Row}
 use Rattle.text.specs.declared.Line.{Line}
+use Rattle.text.specs.declared.Head.{Head}
 
 -- a word as a row holds it: ten bytes, '=' after its last
 abbrev pub word : String → List ℕ
@@ -56,6 +58,10 @@ partNext parts p = cond (last parts p) 0 (p + 1)
 abbrev pub markDue : ℕ → ℕ → ℕ
 markDue parts p = cond (last parts p) 44 58
 
+-- the bytes of the part that begins at a place, up to its mark or the end
+abbrev pub partBytes : List ℕ → ℕ → List ℕ
+partBytes s from = take (seek 58 44 (drop from s)) (drop from s)
+
 -- 01, Energies and sheet: "pairs quantity:price joined by commas"; Hour record: "minutes:kind:cause:capability joined by commas".
 -- The numbers of a value from part p of a group on, of which `left` may still come
 unfoldable pub numbers : List ℕ → List ℕ → ℕ → ℕ → ℕ → List ℕ → Line → Line
@@ -90,3 +96,9 @@ valueOf row s =
     cond (eqb (row .parts) 0) (cond (wordIs s (row .word)) (noLine 0) (noLine 2))
     (cond (eqb (length s) 0) (cond (eqb (row .blank) 1) (noLine 0) (noLine 2))
     (checked row (numbers (row .low) (row .high) (row .parts) (row .most) 0 s (noLine 0))))
+
+-- a line as its head and the list of its numbers, which says nothing where the line is refused
+pub record Held (h : Head) (number : List ℕ) (l : Line) : Type 0 where
+  pub code-is : h .code ≡ l .code
+  pub count-is : l .code ≡ 0 → h .count ≡ l .count
+  pub number-is : l .code ≡ 0 → number ≡ l .number

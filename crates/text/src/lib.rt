@@ -1,14 +1,22 @@
 // One line key=value of a text: its key, the part that is its value, decimal numbers, and the value read by a row,
 // which says what one kind of line may be.
 ghost use mathlib.Core.Path.{_≡_};
-ghost use Prim.Native.Nat.{ℕ, zero, suc, _+_, _-_, _/_, _^_, _≤_, _<_};
-ghost use lib.ListN.{length, take, drop, getD, set};
-ghost use Rattle.text.specs.Text.{seek, valuePart, wordIs, keyIs, leadingZero, atLeast, numberIn};
-ghost use Rattle.text.specs.Rows.{word, numberRow, blankRow, wordRow, noLine, markDue, partNext, valueOf};
+ghost use Prim.Native.Nat.{ℕ, _+_, _*_, _/_, _<_};
+ghost use lib.Dec.{leb};
+ghost use lib.ListN.{drop, getD, set, replicate};
+ghost use Rattle.text.specs.declared.Number.the-variants.{Value, Malformed};
+ghost use Rattle.text.specs.Text.{seek, valuePart, wordIs, keyIs, digits, numberIn};
+ghost use Rattle.text.specs.Rows.{word, numberRow, blankRow, wordRow, noLine, markDue, partNext, partBytes, valueOf, Held};
 
 pub enum Number {
     Value(u64),
     Malformed,
+}
+
+// One number of a value, and the place of the mark after it or the end.
+struct Part {
+    number: Number,
+    end: usize,
 }
 
 // One kind of line. A key or a word ends at its '='.
@@ -33,6 +41,12 @@ pub struct Line {
     pub code: u64,
     pub count: usize,
     pub number: [u64; 24],
+}
+
+// What stands in a line beside its numbers: the code and the count.
+pub struct Head {
+    pub code: u64,
+    pub count: usize,
 }
 
 // key=number, from low to high.
@@ -161,9 +175,19 @@ pub fn word_is(text: &[u8], word: [u8; 10]) -> bool
 pub fn key_is(line: &[u8], key: [u8; 10]) -> bool
     ensures { λ r. ⌜ r ≡ keyIs (now (line .entry)) key ⌝ }
 {
-    let i = find(line, 0, b'=', b'=');
-    if i < line.len() {
-        return word_is(&line[..i], key);
+    let mut i = 0;
+    while i < 10 {
+        if line.len() <= i {
+            return false;
+        }
+        let w = key[i];
+        if line[i] != w {
+            return false;
+        }
+        if w == b'=' {
+            return true;
+        }
+        i += 1;
     }
     false
 }
@@ -174,74 +198,99 @@ fn wide(x: u8) -> u64
     x as u64
 }
 
-fn digits(s: &[u8], high: u64) -> Number
-    ensures { λ r. ⌜ r ≡ Rattle.text.specs.Text.digits high 0 (now (s .entry)) ⌝ }
+fn part_read(n: u64, end: usize) -> Part
+    ensures { λ r. ⌜ r ≡ record { number = Value n; end = end } ⌝ }
+{
+    Part {
+        number: Number::Value(n),
+        end: end,
+    }
+}
+
+fn part_refused() -> Part
+    ensures { λ r. ⌜ r ≡ record { number = Malformed; end = 0 } ⌝ }
+{
+    Part {
+        number: Number::Malformed,
+        end: 0,
+    }
+}
+
+// Whether n with the digit d behind it is at most high. Below 10^18 the two make a machine number.
+fn within(n: u64, d: u64, high: u64) -> bool
+    requires { ⌜ d < 10 ⌝ }
+    ensures { λ r. ⌜ r ≡ leb (n * 10 + d) high ⌝ }
+{
+    if n < 1000000000000000000 {
+        return n * 10 + d <= high;
+    }
+    if high < d {
+        return false;
+    }
+    n <= (high - d) / 10
+}
+
+// The digits of the part that begins at `from`, up to its mark or the end.
+fn digits_at(value: &[u8], from: usize, high: u64) -> Part
+    ensures { λ r. ⌜ r .number ≡ digits high 0 (partBytes (now (value .entry)) from) ⌝ }
+    ensures { λ r. ⌜ ((n : ℕ) → r .number ≡ Value n → r .end ≡ from + seek 58 44 (drop from (now (value .entry)))) ⌝ }
 {
     let mut n: u64 = 0;
-    let mut i: usize = 0;
-    while i < s.len() {
-        let x = s[i];
+    let mut i = from;
+    while i < value.len() {
+        let x = value[i];
         if x < b'0' {
-            return Number::Malformed;
+            if x == b',' {
+                return part_read(n, i);
+            }
+            return part_refused();
         }
         if b'9' < x {
-            return Number::Malformed;
+            if x == b':' {
+                return part_read(n, i);
+            }
+            return part_refused();
         }
         let d = wide(x - 48);
-        if high < d {
-            return Number::Malformed;
-        }
-        if (high - d) / 10 < n {
-            return Number::Malformed;
+        if !within(n, d, high) {
+            return part_refused();
         }
         n = n * 10 + d;
         i += 1;
     }
-    Number::Value(n)
+    part_read(n, i)
 }
 
-fn leading_zero(s: &[u8]) -> bool
-    ensures { λ r. ⌜ r ≡ leadingZero (now (s .entry)) ⌝ }
+// The decimal number of the part that begins at `from`: from low to high, with no leading zero.
+fn part_at(value: &[u8], from: usize, low: u64, high: u64) -> Part
+    ensures { λ r. ⌜ r .number ≡ numberIn low high (partBytes (now (value .entry)) from) ⌝ }
+    ensures { λ r. ⌜ ((n : ℕ) → r .number ≡ Value n → r .end ≡ from + seek 58 44 (drop from (now (value .entry)))) ⌝ }
 {
-    if s.len() < 2 {
-        return false;
+    let d = digits_at(value, from, high);
+    let number = d.number;
+    let Number::Value(n) = number else {
+        return part_refused();
+    };
+    if d.end <= from {
+        return part_refused();
     }
-    s[0] == b'0'
-}
-
-fn at_least(n: Number, low: u64) -> Number
-    ensures { λ r. ⌜ r ≡ atLeast low n ⌝ }
-{
-    match n {
-        Number::Value(x) => {
-            if x < low {
-                Number::Malformed
-            } else {
-                Number::Value(x)
-            }
+    if from + 1 < d.end {
+        if value[from] == b'0' {
+            return part_refused();
         }
-        Number::Malformed => Number::Malformed,
     }
+    if n < low {
+        return part_refused();
+    }
+    d
 }
 
-// A decimal number from low to high, with no leading zero.
-pub fn number_in(s: &[u8], low: u64, high: u64) -> Number
-    ensures { λ r. ⌜ r ≡ numberIn low high (now (s .entry)) ⌝ }
+// The number at a place, 0 past the end.
+fn element(number: &[u64], at: usize) -> u64
+    ensures { λ r. ⌜ r ≡ getD (now (number .entry)) at 0 ⌝ }
 {
-    if s.len() == 0 {
-        return Number::Malformed;
-    }
-    if leading_zero(s) {
-        return Number::Malformed;
-    }
-    at_least(digits(s, high), low)
-}
-
-fn bound(limits: [u64; 4], p: usize) -> u64
-    ensures { λ r. ⌜ r ≡ getD limits p 0 ⌝ }
-{
-    if p < 4 {
-        return limits[p];
+    if at < number.len() {
+        return number[at];
     }
     0
 }
@@ -266,76 +315,58 @@ fn part_next(parts: usize, p: usize) -> usize
     p + 1
 }
 
-fn stored(number: [u64; 24], at: usize, n: u64) -> [u64; 24]
-    ensures { λ r. ⌜ r ≡ set number at n ⌝ }
+// Stores a number at a place, where there is room for it.
+fn store(number: &mut [u64], at: usize, n: u64)
+    ensures { λ r. ⌜ now (number .exit) ≡ set (now (number .entry)) at n ⌝ }
 {
-    let mut new = number;
-    if at < 24 {
-        new[at] = n;
-        return new;
-    }
-    new
-}
-
-// One number more, where there is room for it.
-fn added(l: Line, n: u64) -> Line
-    requires { ⌜ l .count < 1000 ⌝ }
-    ensures { λ r. ⌜ r ≡ Rattle.text.specs.Rows.added l n ⌝ }
-{
-    let at = l.count;
-    let old = l.number;
-    Line {
-        code: l.code,
-        count: at + 1,
-        number: stored(old, at, n),
+    if at < number.len() {
+        number[at] = n;
     }
 }
 
 // The numbers of a value: a group's numbers are joined by ':', groups by ','.
-fn numbers(value: &[u8], row: Row) -> Line
-    ensures { λ r. ⌜ r ≡ Rattle.text.specs.Rows.numbers (row .low) (row .high) (row .parts) (row .most) 0 (now (value .entry)) (noLine 0) ⌝ }
+fn numbers(value: &[u8], row: Row, number: &mut [u64]) -> Head
+    requires { ⌜ now number ≡ replicate 24 0 ⌝ }
+    ensures { λ r. ⌜ Held r (now (number .exit)) (Rattle.text.specs.Rows.numbers (row .low) (row .high) (row .parts) (row .most) 0 (now (value .entry)) (noLine 0)) ⌝ }
 {
     let low = row.low;
     let high = row.high;
     let parts = row.parts;
-    let mut l = no_line();
+    let mut count: usize = 0;
     let mut left = row.most as usize;
     let mut from = 0;
     let mut p = 0;
     while 0 < left {
-        let e = find(value, from, b':', b',');
-        let Number::Value(n) = number_in(&value[from..e], bound(low, p), bound(high, p)) else {
-            return refused_line(2);
+        let part = part_at(value, from, element(&low, p), element(&high, p));
+        let e = part.end;
+        let read = part.number;
+        let Number::Value(n) = read else {
+            return Head { code: 2, count: 0 };
         };
+        store(number, count, n);
+        count += 1;
         if value.len() <= e {
             if p + 1 == parts {
-                return added(l, n);
+                return Head {
+                    code: 0,
+                    count: count,
+                };
             }
-            return refused_line(2);
+            return Head { code: 2, count: 0 };
         }
         if value[e] != mark_due(parts, p) {
-            return refused_line(2);
+            return Head { code: 2, count: 0 };
         }
-        l = added(l, n);
         p = part_next(parts, p);
         from = e + 1;
         left -= 1;
     }
-    refused_line(2)
-}
-
-fn element(number: [u64; 24], at: usize) -> u64
-    ensures { λ r. ⌜ r ≡ getD number at 0 ⌝ }
-{
-    if at < 24 {
-        return number[at];
-    }
-    0
+    Head { code: 2, count: 0 }
 }
 
 // Whether the first numbers of the pairs rise and the second never fall.
-fn rising(number: [u64; 24], count: usize) -> bool
-    ensures { λ r. ⌜ r ≡ Rattle.text.specs.Rows.rising number 0 (count / 2) 0 0 ⌝ }
+fn rising(number: &[u64], count: usize) -> bool
+    ensures { λ r. ⌜ r ≡ Rattle.text.specs.Rows.rising (now (number .entry)) 0 (count / 2) 0 0 ⌝ }
 {
     let mut left = count / 2;
     let mut at = 0;
@@ -358,34 +389,50 @@ fn rising(number: [u64; 24], count: usize) -> bool
     true
 }
 
-// A value by its row.
-pub fn read_value(value: &[u8], row: Row) -> Line
-    ensures { λ r. ⌜ r ≡ valueOf row (now (value .entry)) ⌝ }
+// A value by its row, its numbers stored in a list of 24 zeros.
+pub fn value_into(value: &[u8], row: Row, number: &mut [u64]) -> Head
+    requires { ⌜ now number ≡ replicate 24 0 ⌝ }
+    ensures { λ r. ⌜ Held r (now (number .exit)) (valueOf row (now (value .entry))) ⌝ }
 {
     if row.parts == 0 {
         let word = row.word;
         if word_is(value, word) {
-            return no_line();
+            return Head { code: 0, count: 0 };
         }
-        return refused_line(2);
+        return Head { code: 2, count: 0 };
     }
     if value.len() == 0 {
         if row.blank == 1 {
-            return no_line();
+            return Head { code: 0, count: 0 };
         }
-        return refused_line(2);
+        return Head { code: 2, count: 0 };
     }
-    let l = numbers(value, row);
-    if l.code != 0 {
-        return l;
+    let h = numbers(value, row, number);
+    if h.code != 0 {
+        return h;
     }
     if row.order == 1 {
-        let number = l.number;
-        let count = l.count;
+        let count = h.count;
         if rising(number, count) {
-            return l;
+            return h;
         }
-        return refused_line(3);
+        return Head { code: 3, count: 0 };
     }
-    l
+    h
+}
+
+// A value by its row.
+pub fn read_value(value: &[u8], row: Row) -> Line
+    ensures { λ r. ⌜ r ≡ valueOf row (now (value .entry)) ⌝ }
+{
+    let mut number = [0u64; 24];
+    let h = value_into(value, row, &mut number);
+    if h.code != 0 {
+        return refused_line(h.code);
+    }
+    Line {
+        code: 0,
+        count: h.count,
+        number: number,
+    }
 }

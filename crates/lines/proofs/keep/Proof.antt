@@ -19,14 +19,11 @@ Inv-loop cells₀ k count number at first i₀ cells i = (i ≤ 24) × (cells �
 abbrev μ-loop : tie.MeasureT-loop
 μ-loop cells₀ k count number at first i₀ cells i = 24 - i
 
-long : (c : tie.Start Inv-loop μ-loop) → length (c .args .t4) ≡ 24
-long c = omega (arith, c .good)
-
 same-cells : (c : tie.At-loop Inv-loop μ-loop) → length (c .loop .cells) ≡ length (c .before .before .args .cells .now)
 same-cells c =
     let g = c .before .before .args in
     ap length (c .loop .inv .1)
-    ∙ length-paste (g .cells .now) (25 * g .k + 1) (g .t4) (c .loop .i) (omega (arith, c .before .if1 .left)) (omega (arith, long (c .before .before)))
+    ∙ length-paste (g .cells .now) (25 * g .k + 1) (g .number .now) (c .loop .i) (omega (arith, c .before .if1 .left)) (omega (arith, c .before .before .pre .1))
 
 mul-at : tie.Need-mul-at Inv-loop μ-loop
 mul-at c = search needs
@@ -36,7 +33,7 @@ add-if1 c = search needs
 
 returns : tie.Need-returns Inv-loop μ-loop
 unfolding withLine
-returns c = (simp (lt-ltb _ _ (c .if1 .taken)), long (c .before))
+returns c = simp (lt-ltb _ _ (c .if1 .taken))
 
 add-first : tie.Need-add-first Inv-loop μ-loop
 add-first c = search needs
@@ -44,13 +41,13 @@ add-first c = search needs
 loop-holds : tie.Need-loop-holds Inv-loop μ-loop
 loop-holds c =
     let g = c .before .args in
-    (omega arith, paste-zero (g .cells .now) (25 * g .k + 1) (g .t4))
+    (omega arith, paste-zero (g .cells .now) (25 * g .k + 1) (g .number .now))
 
 mul-cells : tie.Need-mul-cells Inv-loop μ-loop
 mul-cells c = search needs
 
-array-read-cells : tie.Need-array-read-cells Inv-loop μ-loop
-array-read-cells c = search needs
+shared-slice-read-cells : tie.Need-shared-slice-read-cells Inv-loop μ-loop
+shared-slice-read-cells c = search needs
 
 add-cells : tie.Need-add-cells Inv-loop μ-loop
 add-cells c = search needs
@@ -59,7 +56,7 @@ mul-cells-2 : tie.Need-mul-cells-2 Inv-loop μ-loop
 mul-cells-2 c = search needs
 
 slice-write-cells : tie.Need-slice-write-cells Inv-loop μ-loop
-slice-write-cells c = omega (arith, same-cells (c .before))
+slice-write-cells c = omega (arith, same-cells (c .before .before))
 
 add-i : tie.Need-add-i Inv-loop μ-loop
 add-i c = search needs
@@ -69,12 +66,12 @@ loop-less c = search needs
 
 loop-again : tie.Need-loop-again Inv-loop μ-loop
 loop-again c =
-    let l = c .before .loop in
-    let g = c .before .before .before .args in (
+    let l = c .before .before .loop in
+    let g = c .before .before .before .before .args in (
       omega arith,
-      ap (λ (x : List ℕ). set x (25 * g .k + 1 + l .i) (getD (g .t4) (l .i) 0)) (l .inv .1)
-          ∙ (paste-suc (g .cells .now) (25 * g .k + 1) (g .t4) (l .i) 0 (omega (arith, c .before .before .if1 .left)) (omega (arith, long (c .before .before .before)))
-          ∙ ap (paste (g .cells .now) (25 * g .k + 1) (g .t4)) (sym (add-one (l .i)))),
+      ap (λ (x : List ℕ). set x (25 * g .k + 1 + l .i) (getD (g .number .now) (l .i) 0)) (l .inv .1)
+          ∙ (paste-suc (g .cells .now) (25 * g .k + 1) (g .number .now) (l .i) 0 (omega (arith, c .before .before .before .if1 .left)) (omega (arith, c .before .before .before .before .pre .1))
+          ∙ ap (paste (g .cells .now) (25 * g .k + 1) (g .number .now)) (sym (add-one (l .i)))),
     )
 
 mul-cells-3 : tie.Need-mul-cells-3 Inv-loop μ-loop
@@ -91,11 +88,9 @@ unfolding withLine
 returns-2 c =
     let l = c .before .loop in
     let g = c .before .before .before .args in
-    let all : l .i ≡ 24 = omega arith in (
-      simp (le-ltb _ _ (c .before .before .if1 .left))
-          (ap (λ (x : List ℕ). set x (25 * g .k) (g .count)) (l .inv .1 ∙ ap (paste (g .cells .now) (25 * g .k + 1) (g .t4)) all)),
-      long (c .before .before .before),
-    )
+    let all : l .i ≡ 24 = omega arith in
+    simp (le-ltb _ _ (c .before .before .if1 .left))
+    (ap (λ (x : List ℕ). set x (25 * g .k) (g .count)) (l .inv .1 ∙ ap (paste (g .cells .now) (25 * g .k + 1) (g .number .now)) all))
 
 pub keep-spec : {M : Type 1} → statement M
 keep-spec =
@@ -109,7 +104,7 @@ keep-spec =
     add-first
     loop-holds
     mul-cells
-    array-read-cells
+    shared-slice-read-cells
     add-cells
     mul-cells-2
     slice-write-cells

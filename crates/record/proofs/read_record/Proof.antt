@@ -38,7 +38,7 @@ fit c =
     let place = place-in (drop (g .start) (g .text .now)) (ones (g .units)) in
     (omega (arith, shown c .at-is, place, length-drop (g .start) (g .text .now), within (c .before .before .before .before)), omega (arith, c .read-lines .ensures .1))
 
-room : (c : tie.After-read-lines) → 3000 ≤ length (c .read-lines .last .1 .1 .0)
+room : (c : tie.After-read-lines) → 2100 ≤ length (c .read-lines .last .1 .1 .0)
 room c = omega (arith, c .read-lines .kept .1 .1 .0)
 
 bad-start-requires : tie.Need-bad-start-requires
