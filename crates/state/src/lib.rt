@@ -53,28 +53,32 @@ pub fn commitment_at(book: Book, h: usize, k: usize) -> HubKwh
     requires { ⌜ (h < hours) × (k < places) ⌝ }
     ensures { λ r. ⌜ r ≡ commitmentAt book h k ⌝ }
 {
-    book.commitment[8 * h + k]
+    let commitment = book.commitment;
+    commitment[8 * h + k]
 }
 
 pub fn mark_at(book: Book, h: usize) -> u64
     requires { ⌜ h < hours ⌝ }
     ensures { λ r. ⌜ r ≡ markAt book h ⌝ }
 {
-    book.mark[h]
+    let mark = book.mark;
+    mark[h]
 }
 
 pub fn energy_at(book: Book, h: usize, k: usize) -> HubGrains
     requires { ⌜ (h < hours) × (k < places) ⌝ }
     ensures { λ r. ⌜ r ≡ energyAt book h k ⌝ }
 {
-    book.energy[8 * h + k]
+    let energy = book.energy;
+    energy[8 * h + k]
 }
 
 pub fn amounts_at(book: Book, h: usize, k: usize) -> Amounts
     requires { ⌜ (h < hours) × (k < places) ⌝ }
     ensures { λ r. ⌜ r ≡ amountsAt book h k ⌝ }
 {
-    book.amounts[8 * h + k]
+    let amounts = book.amounts;
+    amounts[8 * h + k]
 }
 
 // An hour's commitments, by place.
@@ -82,10 +86,11 @@ pub fn hour_commitments(book: Book, h: usize) -> [HubKwh; 8]
     requires { ⌜ h < hours ⌝ }
     ensures { λ r. ⌜ r ≡ hourCommitments book h ⌝ }
 {
+    let commitment = book.commitment;
     let mut row = [HubKwh(0); 8];
     let mut k: usize = 0;
     while k < 8 {
-        let kwh = book.commitment[8 * h + k];
+        let kwh = commitment[8 * h + k];
         row[k] = kwh;
         k += 1;
     }
@@ -97,12 +102,13 @@ pub fn hour_amounts(book: Book, h: usize) -> [Amounts; 8]
     requires { ⌜ h < hours ⌝ }
     ensures { λ r. ⌜ r ≡ hourAmounts book h ⌝ }
 {
+    let amounts = book.amounts;
     let none = Amounts { item: [0i64; 5] };
     let mut row = [none; 8];
     let mut k: usize = 0;
     while k < 8 {
-        let amounts = book.amounts[8 * h + k];
-        row[k] = amounts;
+        let its = amounts[8 * h + k];
+        row[k] = its;
         k += 1;
     }
     row
