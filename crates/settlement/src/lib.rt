@@ -22,7 +22,7 @@ ghost use Rattle.offer.specs.Offer.{offerHolds};
 ghost use Rattle.sheet.specs.Ranges.{unitAt as «sheet_unit», offerAt};
 ghost use Rattle.record.specs.Spans.{unitAt as «record_unit»};
 ghost use Rattle.record.proofs.InRange.{SpanInRange, UnitInRange, InRange};
-ghost use Rattle.settlement.specs.Deviation.{shortMinutes, countedAs, proportion as «the_proportion», proportions as «the_proportions», deviationsOf};
+ghost use Rattle.settlement.specs.Deviation.{shortMinutes, proportions as «the_proportions», deviationsOf};
 ghost use Rattle.settlement.specs.Hour.{noAmounts, ratesOf, energyItem, availabilityItem, refundItem, testItem, amountsOf, plantOf, hourResult};
 ghost use Rattle.settlement.specs.Refusals.{readingsTotal, allMeasured, readingsHold, noProportion, unitProportioned, proportionsHold};
 ghost use Rattle.settlement.specs.Ranges.{HourRead, HourReady, RatesReady, SplitReady, UnitReady, UnitsReady, placeAmounts};
@@ -60,44 +60,24 @@ fn short_minutes(own: u64, test: NetKwh, span: Span) -> u64
     short * span.minutes
 }
 
-// What a span adds to a kind's sum: nothing to one that it does not count as.
-fn counted_as(own: u64, test: NetKwh, kind: u64, span: Span) -> u64
-    requires { ⌜ (own ≤ 10000) × (test .0 ≤ 1000000) × SpanInRange span ⌝ }
-    ensures { λ r. ⌜ r ≡ countedAs own test kind span ⌝ }
-{
-    if record::counted_kind(span) == kind {
-        return short_minutes(own, test, span);
-    }
-    0
-}
-
-// The sum of a kind, over a unit's spans.
-fn proportion(own: u64, u: UnitRecord, kind: u64) -> u64
-    requires { ⌜ (own ≤ 10000) × UnitInRange u ⌝ }
-    ensures { λ r. ⌜ r ≡ «the_proportion» own u kind ⌝ }
-{
-    let test = u.test;
-    let spans = u.spans;
-    let mut total: u64 = 0;
-    let mut i: usize = 0;
-    while i < spans {
-        let span = u.span[i];
-        total += counted_as(own, test, kind, span);
-        i += 1;
-    }
-    total
-}
-
-// The sum of each kind from kind 2 on.
+// The sum of each kind from kind 2 on, over a unit's spans: each adds to the kind that it counts as.
 fn proportions(own: u64, u: UnitRecord) -> [u64; KINDS]
     requires { ⌜ (own ≤ 10000) × UnitInRange u ⌝ }
     ensures { λ r. ⌜ r ≡ «the_proportions» own u ⌝ }
 {
+    let test = u.test;
+    let spans = u.spans;
     let mut sums = [0u64; KINDS];
-    let mut j: usize = 0;
-    while j < KINDS {
-        sums[j] = proportion(own, u, 2 + j as u64);
-        j += 1;
+    let mut i: usize = 0;
+    while i < spans {
+        let span = u.span[i];
+        let kind = record::counted_kind(span);
+        if kind >= 2 {
+            let j = (kind - 2) as usize;
+            let more = short_minutes(own, test, span);
+            sums[j] += more;
+        }
+        i += 1;
     }
     sums
 }
@@ -447,9 +427,10 @@ fn no_proportion(own: u64, u: UnitRecord) -> bool
     requires { ⌜ (own ≤ 10000) × UnitInRange u ⌝ }
     ensures { λ r. ⌜ r ≡ noProportion own u ⌝ }
 {
+    let sums = proportions(own, u);
     let mut j: usize = 0;
     while j < KINDS {
-        if proportion(own, u, 2 + j as u64) != 0 {
+        if sums[j] != 0 {
             return false;
         }
         j += 1;
