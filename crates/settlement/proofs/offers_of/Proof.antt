@@ -57,13 +57,13 @@ offer-at-requires-8 c κs = search needs
 returns : tie.Need-returns
 unfolding tabulate
 returns c = λ i.
-    c .before .before .before .before .before .before .before .before .before .before .before .before .before .before .offer-at .ensures i ∷ 
-    c .before .before .before .before .before .before .before .before .before .before .before .before .offer-at2 .ensures i ∷ 
-    c .before .before .before .before .before .before .before .before .before .before .offer-at3 .ensures i ∷ 
-    c .before .before .before .before .before .before .before .before .offer-at4 .ensures i ∷ 
-    c .before .before .before .before .before .before .offer-at5 .ensures i ∷ 
-    c .before .before .before .before .offer-at6 .ensures i ∷ 
-    c .before .before .offer-at7 .ensures i ∷ 
+    c .before .before .before .before .before .before .before .before .before .before .before .before .before .before .offer-at .ensures i ∷
+    c .before .before .before .before .before .before .before .before .before .before .before .before .offer-at2 .ensures i ∷
+    c .before .before .before .before .before .before .before .before .before .before .offer-at3 .ensures i ∷
+    c .before .before .before .before .before .before .before .before .offer-at4 .ensures i ∷
+    c .before .before .before .before .before .before .offer-at5 .ensures i ∷
+    c .before .before .before .before .offer-at6 .ensures i ∷
+    c .before .before .offer-at7 .ensures i ∷
     c .offer-at8 .ensures i ∷ []
 
 pub offers-of-spec : {M : Type 1} → statement M
