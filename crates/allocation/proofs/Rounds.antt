@@ -1,8 +1,8 @@
 -- A round of the fill's code: the unit whose next block is cheapest is the one that gets the next grain, since a block's price is its first
 -- grain's; the block's grains then go to it together, and only its own next block changes.
 -- Assumes nothing.
-use mathlib.Core.Path.{_≡_, sym, subst, _∙_, ap}
-use mathlib.Core.Bool.{Bool, true, false}
+use mathlib.Core.Path.{_≡_, refl, sym, subst, _∙_, ap}
+use mathlib.Core.Bool.{Bool, true, false, cond}
 use mathlib.Core.List.{List}
 use Prim.Native.Nat.{ℕ, _+_, _-_, _<_, _≤_}
 use native.Mathlib.Numerals.{add-one}
@@ -23,7 +23,7 @@ use Rattle.allocation.specs.declared.Pick.the-variants.{Nothing as none,
 use Rattle.allocation.specs.Fill.{grainsAt, withMore, better, best, nextUnit, place}
 use Rattle.allocation.specs.Allocation.{pricesOf}
 use Rattle.allocation.specs.Blocks.{blockPrice, blockEnd, HasBlock}
-use Rattle.allocation.proofs.Best.{Picked, best-is, best-same}
+use Rattle.allocation.proofs.Best.{best-same}
 use Rattle.allocation.proofs.Threshold.{more-same, more-other}
 use Rattle.allocation.proofs.Runs.{place-add, picked, run}
 
@@ -41,6 +41,25 @@ module _ (next : ℕ → ℕ) (found : Pick) (v : ℕ) where
   unfolding better
   better-kept u e l = rw e (rw (le-ltb (next v) (next u) l))
 
+-- the price of the better one's next block
+module _ (next : ℕ → ℕ) (v low low' price : ℕ) (mine : next v ≡ price) where
+  weighed : (w u : ℕ) → next w ≡ low → low' ≡ cond (ltb price low) price low → (t : Bool) → ltb price low ≡ t → cond t (at v) (at w) ≡ at u
+      → next u ≡ low'
+  weighed w u h e true q p = let i : v ≡ u = cc in ap next (sym i) ∙ (mine ∙ sym (e ∙ rw q))
+  weighed w u h e false q p = let i : w ≡ u = cc in ap next (sym i) ∙ (h ∙ sym (e ∙ rw q))
+
+  by-found : (found : Pick) → ((u : ℕ) → found ≡ at u → next u ≡ low) → (found ≡ none → low' ≡ price)
+      → ((u : ℕ) → found ≡ at u → low' ≡ cond (ltb price low) price low) → (u : ℕ) → better next found v ≡ at u → next u ≡ low'
+  unfolding better
+  by-found none h n a u e = let i : v ≡ u = cc in ap next (sym i) ∙ (mine ∙ sym (n refl))
+  by-found (at w) h n a u e =
+      weighed w u (h w refl) (a w refl) (ltb price low) refl (rw (mine, h w refl) at e)
+
+  pub low-after : (found : Pick) → ((u : ℕ) → found ≡ at u → next u ≡ low) → (found ≡ none → low' ≡ price)
+      → ((u : ℕ) → found ≡ at u → low' ≡ cond (ltb price low) price low)
+      → (picked : Pick) → picked ≡ better next found v → (u : ℕ) → picked ≡ at u → next u ≡ low'
+  low-after found h n a picked p u e = by-found found h n a u (sym p ∙ e)
+
 -- one unit more
 module _ (next : ℕ → ℕ) (room : ℕ → Bool) (n : ℕ) where
   pub best-free : room n ≡ true → better next (best next room n) n ≡ best next room (n + 1)
@@ -50,9 +69,6 @@ module _ (next : ℕ → ℕ) (room : ℕ → Bool) (n : ℕ) where
   pub best-full : room n ≡ false → best next room n ≡ best next room (n + 1)
   unfolding best
   best-full e = rw add-one (rw e)
-
-  pub best-below : (u : ℕ) → best next room n ≡ at u → u < n
-  best-below u e = subst (λ (q : Pick). Picked next room n q) e (best-is next room n) .known
 
 module _ (offers : List Offer) (commitments : List HubKwh) (ceilings : List HubGrains) where
   -- the blocks after one was replaced

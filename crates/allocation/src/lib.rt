@@ -15,7 +15,7 @@ ghost use Rattle.energy.specs.Energy.{hubOf};
 ghost use Rattle.units.specs.Units.{memberAt};
 ghost use Rattle.offer.specs.Offer.{offerHolds};
 ghost use Rattle.offer.specs.Modified.{IsBlock};
-ghost use Rattle.allocation.specs.declared.Pick.the-variants.{At};
+ghost use Rattle.allocation.specs.declared.Pick.the-variants.{Nothing, At};
 ghost use Rattle.allocation.specs.Fill.{grainsAt, better, best, fill as «the_fill»};
 ghost use Rattle.allocation.specs.Allocation.{above as «the_above», netAt, grossAt, plantEnergy, ceilings as «the_ceilings», pricesOf, energies, PlantHolds};
 ghost use Rattle.allocation.specs.Blocks.{blockPrice, Offered, HasBlock};
@@ -186,20 +186,30 @@ fn first_blocks(
     blocks
 }
 
-// The unit found so far, or unit v where its next block is cheaper.
-fn better_of(blocks: [Block; 8], found: Pick, v: usize) -> Pick
-    requires { ⌜ (v < 8) × ((u : ℕ) → found ≡ At u → u < 8) ⌝ }
-    ensures { λ r. ⌜ r ≡ better (blockPrice blocks) found v ⌝ }
+// The unit found so far, whose next block has the price `low`, or unit v where its own next block's price is less.
+fn better_of(found: Pick, low: u64, price: u64, v: usize) -> Pick
+    ensures { λ r. ⌜ ((next : ℕ → ℕ) → next v ≡ price → ((u : ℕ) → found ≡ At u → next u ≡ low) → r ≡ better next found v) ⌝ }
 {
-    let Pick::At(u) = found else {
+    let Pick::At(_) = found else {
         return Pick::At(v);
     };
-    let its = blocks[u];
-    let mine = blocks[v];
-    if mine.price < its.price {
+    if price < low {
         return Pick::At(v);
     }
     found
+}
+
+// The price of the next block of the better of the two.
+fn lower_of(found: Pick, low: u64, price: u64) -> u64
+    ensures { λ r. ⌜ (found ≡ Nothing → r ≡ price) × ((u : ℕ) → found ≡ At u → r ≡ cond (ltb price low) price low) ⌝ }
+{
+    let Pick::At(_) = found else {
+        return price;
+    };
+    if low <= price {
+        return low;
+    }
+    price
 }
 
 // The unit with room whose next block is cheapest, the lowest at equal price.
@@ -207,12 +217,16 @@ fn cheapest(energies: [HubGrains; 8], ceilings: [HubGrains; 8], blocks: [Block; 
     ensures { λ r. ⌜ r ≡ best (blockPrice blocks) (λ (u : ℕ). ltb (grainsAt energies u) (grainsAt ceilings u)) 8 ⌝ }
 {
     let mut found = Pick::Nothing;
+    let mut low: u64 = 0;
     let mut v: usize = 0;
     while v < 8 {
         let has = energies[v];
         let limit = ceilings[v];
+        let block = blocks[v];
         if has.0 < limit.0 {
-            found = better_of(blocks, found, v);
+            let better = better_of(found, low, block.price, v);
+            low = lower_of(found, low, block.price);
+            found = better;
         }
         v += 1;
     }

@@ -4,7 +4,7 @@ ghost use mathlib.Core.Bool.{true};
 ghost use Prim.Native.Nat.{ℕ, _-_, _≤_, _<_};
 ghost use Rattle.finite.specs.Finite.{every};
 ghost use Rattle.offer.specs.Offer.{noOffer, stepsAllowed, inRange, inOrder, stepInRange, stepInOrder, offerHolds, lastQuantity};
-ghost use Rattle.offer.specs.Modified.{OnStep, IsBlock, costBetween};
+ghost use Rattle.offer.specs.Modified.{IsBlock, costBetween};
 use energy::HubKwh;
 
 // Up to ten steps: a cumulative quantity and a price in Rial/MWh. Past the number of steps nothing is looked at.
@@ -126,24 +126,6 @@ pub fn last_quantity(offer: Offer) -> HubKwh
     offer.quantity[last]
 }
 
-// The step that grain i falls in; the last one has no end.
-fn step_at(offer: Offer, i: u64) -> usize
-    requires { ⌜ offerHolds offer ≡ true ⌝ }
-    ensures { λ r. ⌜ OnStep offer i r ⌝ }
-{
-    let last = offer.steps - 1;
-    let mut s: usize = 0;
-    while s < last {
-        let quantity = offer.quantity[s];
-        let end = energy::grains_of(quantity);
-        if i < end.0 {
-            return s;
-        }
-        s += 1;
-    }
-    s
-}
-
 fn least(a: u64, b: u64) -> u64
     ensures { λ r. ⌜ (r ≤ a) × (r ≤ b) ⌝ }
     ensures { λ r. ⌜ ((x : ℕ) → x < a → x < b → x < r) ⌝ }
@@ -151,7 +133,8 @@ fn least(a: u64, b: u64) -> u64
     if a < b { a } else { b }
 }
 
-// The grains from i on, below `limit`, that have the price of grain i under the modified offer.
+// The grains from i on, below `limit`, that have the price of grain i under the modified offer: the steps that end at or before grain i
+// are passed, and the last one has no end.
 pub fn block_at(offer: Offer, commitment: HubKwh, i: u64, limit: u64) -> Block
     requires { ⌜ (offerHolds offer ≡ true) × (commitment .0 ≤ 1000000000) × (i < limit) ⌝ }
     ensures { λ r. ⌜ IsBlock offer commitment i limit (r .price) (r .end) ⌝ }
@@ -164,18 +147,22 @@ pub fn block_at(offer: Offer, commitment: HubKwh, i: u64, limit: u64) -> Block
         };
     }
     let last = offer.steps - 1;
-    let s = step_at(offer, i);
-    let price = offer.price[s];
-    if s < last {
+    let mut s: usize = 0;
+    while s < last {
         let quantity = offer.quantity[s];
         let end = energy::grains_of(quantity);
-        return Block {
-            price: price,
-            end: least(end.0, limit),
-        };
+        if i < end.0 {
+            let price = offer.price[s];
+            return Block {
+                price: price,
+                end: least(end.0, limit),
+            };
+        }
+        s += 1;
     }
+    let last_price = offer.price[s];
     Block {
-        price: price,
+        price: last_price,
         end: limit,
     }
 }

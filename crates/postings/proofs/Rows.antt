@@ -6,9 +6,8 @@ use mathlib.Core.List.{List, [], _++_, append-nil}
 use Prim.Native.Nat.{ℕ, zero, suc, _+_, _*_, _-_, _≤_, _<_}
 use native.Mathlib.Numerals.{add-one}
 use native.Mathlib.Omega.{arith}
-use lib.IntN.{ℤ, _-ℤ_}
 use lib.ListN.{length, getD, set, drop, replicate, length-append, length-replicate, replicate-append-replicate}
-use lib.Seq.{paste, paste-suc, take-at, drop-at, take-all, drop-append-add}
+use lib.Seq.{paste, paste-zero, paste-suc, take-at, drop-at, take-all, drop-append-add}
 use Rattle.finite.proofs.Tables.{length-tabulate, getD-tabulate}
 use Rattle.units.specs.Units.{memberAt, members}
 use Rattle.units.proofs.Laws.{members-zero, members-in, members-out, members-le}
@@ -28,20 +27,32 @@ module _ (hour k : ℕ) (old new : Amounts) where
   unfolding unitPostings
   unit-at i l = getD-tabulate items (postingOf hour k old new) i noPosting l
 
--- one posting of a unit more
-pub more : (row : List Posting) (at hour k : ℕ) (old new : Amounts) (rows : List Posting) (i : ℕ) (z : ℤ)
-    → at + i < length row → i < items → rows ≡ paste row at (unitPostings hour k old new) i → z ≡ itemOf new i -ℤ itemOf old i
-    → set rows (at + i) (record { hour = hour; unit = k + 1; item = i + 1; amount = z })
-    ≡ paste row at (unitPostings hour k old new) (i + 1)
-more row at hour k old new rows i z h l e v =
-    let u = unitPostings hour k old new in
-    let one : set rows (at + i) (record { hour = hour; unit = k + 1; item = i + 1; amount = z })
-    ≡ set (paste row at u i) (at + i) (postingOf hour k old new i) =
-    λ j. set (e j) (at + i) (record { hour = hour; unit = k + 1; item = i + 1; amount = v j }) in
-    one
-    ∙ ap (λ (x : Posting). set (paste row at u i) (at + i) x) (sym (unit-at hour k old new i l))
-    ∙ paste-suc row at u i noPosting h (omega (arith, unit-length hour k old new))
-    ∙ ap (λ (n : ℕ). paste row at u n) (sym (add-one i))
+-- one posting of a unit more, and all five of them
+module _ (row : List Posting) (at hour k : ℕ) (old new : Amounts) where
+  more : (rows : List Posting) (i : ℕ) (p : Posting) → at + i < length row → i < items
+      → rows ≡ paste row at (unitPostings hour k old new) i → p ≡ postingOf hour k old new i
+      → set rows (at + i) p ≡ paste row at (unitPostings hour k old new) (i + 1)
+  more rows i p h l e v =
+      let u = unitPostings hour k old new in
+      let one : set rows (at + i) p ≡ set (paste row at u i) (at + i) (postingOf hour k old new i) = λ j. set (e j) (at + i) (v j) in
+      one
+      ∙ ap (λ (x : Posting). set (paste row at u i) (at + i) x) (sym (unit-at hour k old new i l))
+      ∙ paste-suc row at u i noPosting h (omega (arith, unit-length hour k old new))
+      ∙ ap (λ (n : ℕ). paste row at u n) (sym (add-one i))
+
+  pub five : (p q r s t : Posting) → at + items ≤ length row
+      → p ≡ postingOf hour k old new 0 → q ≡ postingOf hour k old new 1 → r ≡ postingOf hour k old new 2
+      → s ≡ postingOf hour k old new 3 → t ≡ postingOf hour k old new 4
+      → set (set (set (set (set row at p) (at + 1) q) (at + 2) r) (at + 3) s) (at + 4) t ≡ paste row at (unitPostings hour k old new) items
+  five p q r s t h ep eq er es et =
+      let u = unitPostings hour k old new in
+      let first : at ≡ at + 0 = omega arith in
+      let a : set row at p ≡ paste row at u 1 =
+      ap (λ (n : ℕ). set row n p) first ∙ more row 0 p (omega arith) (omega arith) (paste-zero row at u) ep in
+      let b = more (set row at p) 1 q (omega arith) (omega arith) a eq in
+      let c = more (set (set row at p) (at + 1) q) 2 r (omega arith) (omega arith) b er in
+      let d = more (set (set (set row at p) (at + 1) q) (at + 2) r) 3 s (omega arith) (omega arith) c es in
+      more (set (set (set (set row at p) (at + 1) q) (at + 2) r) (at + 3) s) 4 t (omega arith) (omega arith) d et
 
 drop-none : (m n : ℕ) → m ≤ n → drop m (replicate n noPosting) ≡ replicate (n - m) noPosting
 drop-none m n l =

@@ -1,13 +1,12 @@
 // Postings: the count and the scan of those up to it, and the postings of one call.
 ghost use mathlib.Core.Path.{_≡_};
-ghost use Prim.Native.Nat.{_+_, _≤_, _<_, min};
+ghost use Prim.Native.Nat.{_≤_, _<_, min};
 ghost use lib.IntN.{natAbs, _-ℤ_};
 ghost use lib.ListN.{getD};
-ghost use lib.Seq.{paste};
 ghost use Rattle.state.specs.Sizes.{places, items};
 ghost use Rattle.state.specs.Ranges.{mostAmount, ItemsWithin, AmountsWithin};
 ghost use Rattle.postings.specs.Journal.{noPosting, countHolds, coveredBy, isOf, scannedWith, scannedNone};
-ghost use Rattle.postings.specs.Plan.{unitPostings, planRows, planOf, rowOf};
+ghost use Rattle.postings.specs.Plan.{postingOf, planOf, rowOf};
 use settlement::Amounts;
 
 // An amount posted for a unit's item in an hour, in Rial. Hour, unit and item are counted from 1.
@@ -115,32 +114,19 @@ fn difference(new: i64, old: i64) -> i64
     new - old
 }
 
-// The rows with the postings of the unit of place k from row `at` on.
-fn with_unit(
-    row: [Posting; 40],
-    at: usize,
-    hour: u64,
-    k: usize,
-    old: Amounts,
-    new: Amounts,
-) -> [Posting; 40]
-    requires { ⌜ (at + items ≤ planRows) × (k < places) × ItemsWithin old × ItemsWithin new ⌝ }
-    ensures { λ r. ⌜ r ≡ paste row at (unitPostings hour k old new) items ⌝ }
+// The posting of item i, counted from 0, of the unit of place k.
+fn posting_of(hour: u64, k: usize, old: Amounts, new: Amounts, i: usize) -> Posting
+    requires { ⌜ (k < places) × (i < items) × ItemsWithin old × ItemsWithin new ⌝ }
+    ensures { λ r. ⌜ r ≡ postingOf hour k old new i ⌝ }
 {
     let unit = k as u64 + 1;
-    let mut rows = row;
-    let mut i: usize = 0;
-    while i < 5 {
-        let amount = difference(new.item[i], old.item[i]);
-        rows[at + i] = Posting {
-            hour: hour,
-            unit: unit,
-            item: i as u64 + 1,
-            amount: amount,
-        };
-        i += 1;
+    let amount = difference(new.item[i], old.item[i]);
+    Posting {
+        hour: hour,
+        unit: unit,
+        item: i as u64 + 1,
+        amount: amount,
     }
-    rows
 }
 
 // The postings of a call for an hour of 1 to 24: for each unit of the plant and each item, the new amount less the old one.
@@ -155,8 +141,11 @@ pub fn plan_of(hour: u64, units: u64, old: [Amounts; 8], new: [Amounts; 8]) -> P
         if units::member_at(units, k) {
             let before = old[k];
             let after = new[k];
-            let next = with_unit(row, at, hour, k, before, after);
-            row = next;
+            row[at] = posting_of(hour, k, before, after, 0);
+            row[at + 1] = posting_of(hour, k, before, after, 1);
+            row[at + 2] = posting_of(hour, k, before, after, 2);
+            row[at + 3] = posting_of(hour, k, before, after, 3);
+            row[at + 4] = posting_of(hour, k, before, after, 4);
             at += 5;
         }
         k += 1;

@@ -12,6 +12,7 @@ use record::Record;
 use record::Span;
 use record::UnitRecord;
 use sheet::Sheet;
+use sheet::UnitSheet;
 ghost use mathlib.Core.Path.{_≡_};
 ghost use mathlib.Core.Bool.{true, cond};
 ghost use Prim.Native.Nat.{ℕ, _+_, _-_, _≤_, _<_};
@@ -21,7 +22,7 @@ ghost use Rattle.offer.specs.Offer.{offerHolds};
 ghost use Rattle.sheet.specs.Ranges.{unitAt as «sheet_unit», offerAt};
 ghost use Rattle.record.specs.Spans.{unitAt as «record_unit»};
 ghost use Rattle.record.proofs.InRange.{SpanInRange, UnitInRange, InRange};
-ghost use Rattle.settlement.specs.Deviation.{shortMinutes, countedAs, proportion as «the_proportion», proportions as «the_proportions», deviationsOf};
+ghost use Rattle.settlement.specs.Deviation.{shortMinutes, proportions as «the_proportions», deviationsOf};
 ghost use Rattle.settlement.specs.Hour.{noAmounts, ratesOf, energyItem, availabilityItem, refundItem, testItem, amountsOf, plantOf, hourResult};
 ghost use Rattle.settlement.specs.Refusals.{readingsTotal, allMeasured, readingsHold, noProportion, unitProportioned, proportionsHold};
 ghost use Rattle.settlement.specs.Ranges.{HourRead, HourReady, RatesReady, SplitReady, UnitReady, UnitsReady, placeAmounts};
@@ -59,44 +60,24 @@ fn short_minutes(own: u64, test: NetKwh, span: Span) -> u64
     short * span.minutes
 }
 
-// What a span adds to a kind's sum: nothing to one that it does not count as.
-fn counted_as(own: u64, test: NetKwh, kind: u64, span: Span) -> u64
-    requires { ⌜ (own ≤ 10000) × (test .0 ≤ 1000000) × SpanInRange span ⌝ }
-    ensures { λ r. ⌜ r ≡ countedAs own test kind span ⌝ }
-{
-    if record::counted_kind(span) == kind {
-        return short_minutes(own, test, span);
-    }
-    0
-}
-
-// The sum of a kind, over a unit's spans.
-fn proportion(own: u64, u: UnitRecord, kind: u64) -> u64
-    requires { ⌜ (own ≤ 10000) × UnitInRange u ⌝ }
-    ensures { λ r. ⌜ r ≡ «the_proportion» own u kind ⌝ }
-{
-    let test = u.test;
-    let spans = u.spans;
-    let mut total: u64 = 0;
-    let mut i: usize = 0;
-    while i < spans {
-        let span = u.span[i];
-        total += counted_as(own, test, kind, span);
-        i += 1;
-    }
-    total
-}
-
-// The sum of each kind from kind 2 on.
+// The sum of each kind from kind 2 on, over a unit's spans: each adds to the kind that it counts as.
 fn proportions(own: u64, u: UnitRecord) -> [u64; KINDS]
     requires { ⌜ (own ≤ 10000) × UnitInRange u ⌝ }
     ensures { λ r. ⌜ r ≡ «the_proportions» own u ⌝ }
 {
+    let test = u.test;
+    let spans = u.spans;
     let mut sums = [0u64; KINDS];
-    let mut j: usize = 0;
-    while j < KINDS {
-        sums[j] = proportion(own, u, 2 + j as u64);
-        j += 1;
+    let mut i: usize = 0;
+    while i < spans {
+        let span = u.span[i];
+        let kind = record::counted_kind(span);
+        if kind >= 2 {
+            let j = (kind - 2) as usize;
+            let more = short_minutes(own, test, span);
+            sums[j] += more;
+        }
+        i += 1;
     }
     sums
 }
@@ -259,59 +240,73 @@ fn hour_amounts(
 fn own_of(sheet: Sheet) -> [u64; 8]
     ensures { λ r. ⌜ r ≡ tabulate 8 (λ (k : ℕ). «sheet_unit» (sheet .unit) k .own) ⌝ }
 {
-    let mut own = [0u64; 8];
-    let mut k: usize = 0;
-    while k < 8 {
-        let u = sheet.unit[k];
-        own[k] = u.own;
-        k += 1;
-    }
-    own
+    [
+        sheet.unit[0].own,
+        sheet.unit[1].own,
+        sheet.unit[2].own,
+        sheet.unit[3].own,
+        sheet.unit[4].own,
+        sheet.unit[5].own,
+        sheet.unit[6].own,
+        sheet.unit[7].own,
+    ]
 }
 
 // Each unit's nominal power.
 fn nominal_of(sheet: Sheet) -> [GrossKwh; 8]
     ensures { λ r. ⌜ r ≡ tabulate 8 (λ (k : ℕ). «sheet_unit» (sheet .unit) k .nominal) ⌝ }
 {
-    let mut nominal = [GrossKwh(0); 8];
-    let mut k: usize = 0;
-    while k < 8 {
-        let u = sheet.unit[k];
-        let its = u.nominal;
-        nominal[k] = its;
-        k += 1;
-    }
-    nominal
+    [
+        GrossKwh(sheet.unit[0].nominal.0),
+        GrossKwh(sheet.unit[1].nominal.0),
+        GrossKwh(sheet.unit[2].nominal.0),
+        GrossKwh(sheet.unit[3].nominal.0),
+        GrossKwh(sheet.unit[4].nominal.0),
+        GrossKwh(sheet.unit[5].nominal.0),
+        GrossKwh(sheet.unit[6].nominal.0),
+        GrossKwh(sheet.unit[7].nominal.0),
+    ]
 }
 
-// Each unit's offer of an hour, counted from 0.
+// A unit's offer of an hour, counted from 0.
+fn offer_at(u: UnitSheet, h: usize) -> Offer
+    requires { ⌜ h < 24 ⌝ }
+    ensures { λ r. ⌜ r ≡ offerAt u h ⌝ }
+{
+    u.offers[h]
+}
+
+// Each unit's offer of an hour.
 fn offers_of(sheet: Sheet, h: usize) -> [Offer; 8]
     requires { ⌜ h < 24 ⌝ }
     ensures { λ r. ⌜ r ≡ tabulate 8 (λ (k : ℕ). offerAt («sheet_unit» (sheet .unit) k) h) ⌝ }
 {
-    let mut offers = [offer::no_offer(); 8];
-    let mut k: usize = 0;
-    while k < 8 {
-        let u = sheet.unit[k];
-        offers[k] = u.offers[h];
-        k += 1;
-    }
-    offers
+    [
+        offer_at(sheet.unit[0], h),
+        offer_at(sheet.unit[1], h),
+        offer_at(sheet.unit[2], h),
+        offer_at(sheet.unit[3], h),
+        offer_at(sheet.unit[4], h),
+        offer_at(sheet.unit[5], h),
+        offer_at(sheet.unit[6], h),
+        offer_at(sheet.unit[7], h),
+    ]
 }
 
 // Each unit's `real`.
 fn real_of(hour: Record) -> [NetKwh; 8]
     ensures { λ r. ⌜ r ≡ tabulate 8 (λ (k : ℕ). «record_unit» hour k .real) ⌝ }
 {
-    let mut real = [NetKwh(0); 8];
-    let mut k: usize = 0;
-    while k < 8 {
-        let u = hour.unit[k];
-        let its = u.real;
-        real[k] = its;
-        k += 1;
-    }
-    real
+    [
+        NetKwh(hour.unit[0].real.0),
+        NetKwh(hour.unit[1].real.0),
+        NetKwh(hour.unit[2].real.0),
+        NetKwh(hour.unit[3].real.0),
+        NetKwh(hour.unit[4].real.0),
+        NetKwh(hour.unit[5].real.0),
+        NetKwh(hour.unit[6].real.0),
+        NetKwh(hour.unit[7].real.0),
+    ]
 }
 
 // What the formulas use of the sheet in an hour.
@@ -320,11 +315,12 @@ fn rates_of(sheet: Sheet, hour: u64) -> Rates
     ensures { λ r. ⌜ r ≡ ratesOf sheet hour ⌝ }
 {
     let h = (hour - 1) as usize;
+    let cpf = sheet.cpf;
     Rates {
         season: formulas::in_season(sheet.month, sheet.day),
         loss: sheet.loss,
         bar: sheet.bar,
-        cpf: sheet.cpf[h],
+        cpf: cpf[h],
     }
 }
 
@@ -431,9 +427,10 @@ fn no_proportion(own: u64, u: UnitRecord) -> bool
     requires { ⌜ (own ≤ 10000) × UnitInRange u ⌝ }
     ensures { λ r. ⌜ r ≡ noProportion own u ⌝ }
 {
+    let sums = proportions(own, u);
     let mut j: usize = 0;
     while j < KINDS {
-        if proportion(own, u, 2 + j as u64) != 0 {
+        if sums[j] != 0 {
             return false;
         }
         j += 1;

@@ -7,7 +7,7 @@ use mathlib.Core.List.{List}
 use lib.Dec.{leb, eqb}
 use lib.IntN.{ℤ, natAbs}
 use lib.ListN.{getD}
-use Rattle.finite.specs.Finite.{every}
+use Rattle.finite.specs.Finite.{every, tabulate}
 use Rattle.energy.specs.declared.HubKwh.{HubKwh}
 use Rattle.energy.specs.declared.HubGrains.{HubGrains}
 use Rattle.units.specs.Units.{memberAt}
@@ -56,6 +56,13 @@ placeHolds member u commitment k =
 
 abbrev pub commitmentsHold : ℕ → List UnitSheet → List HubKwh → Bool
 commitmentsHold units unit commitment = every places (λ k. placeHolds (memberAt units k) (unitAt unit k) commitment k)
+
+-- the same of the commitments as numbers of kWh, which the code looks at
+unfoldable pub kwhOf : List HubKwh → List ℕ
+kwhOf commitment = tabulate entries (λ j. getD commitment j noKwh .0)
+
+abbrev pub keptTo : Bool → UnitSheet → List ℕ → ℕ → Bool
+keptTo member u kwh k = every hours (λ h. leb (getD kwh (entryOf h k) 0) (limitOf member (offerAt u h) .0))
 
 abbrev pub marksHold : List ℕ → Bool
 marksHold mark = every hours (λ h. eqb (getD mark h 0) openMark || eqb (getD mark h 0) settledMark)

@@ -1,9 +1,14 @@
 // The book: how it is read and written, and what refusal 12 asks of it. Hours and places are counted from 0 here.
 ghost use mathlib.Core.Path.{_≡_};
-ghost use Prim.Native.Nat.{_^_, _<_};
-ghost use Rattle.state.specs.Sizes.{hours, places};
-ghost use Rattle.state.specs.Book.{noGrains, pastAmounts, commitmentAt, markAt, energyAt, amountsAt, hourCommitments, hourAmounts, emptyBook, noResult, withCommitment, stored, withHour};
-ghost use Rattle.state.specs.Ranges.{within as «is_within», limitOf, limitAt, placeHolds, commitmentsHold, marksHold, energiesHold, itemsHold, amountsHold, bookHolds};
+ghost use mathlib.Core.Bool.{false};
+ghost use Prim.Native.Nat.{ℕ, _^_, _<_};
+ghost use lib.ListN.{length, getD};
+ghost use Rattle.finite.specs.Finite.{every};
+ghost use Rattle.units.specs.Units.{memberAt};
+ghost use Rattle.sheet.specs.Ranges.{unitAt};
+ghost use Rattle.state.specs.Sizes.{hours, places, entries, entryOf};
+ghost use Rattle.state.specs.Book.{commitmentAt, markAt, energyAt, amountsAt, hourCommitments, hourAmounts, emptyBook, noResult, withCommitment, withHour};
+ghost use Rattle.state.specs.Ranges.{within as «is_within», limitOf, limitAt, kwhOf, keptTo, marksHold, energiesHold, itemsHold, amountsHold, bookHolds};
 use energy::HubGrains;
 use energy::HubKwh;
 use offer::Offer;
@@ -48,28 +53,32 @@ pub fn commitment_at(book: Book, h: usize, k: usize) -> HubKwh
     requires { ⌜ (h < hours) × (k < places) ⌝ }
     ensures { λ r. ⌜ r ≡ commitmentAt book h k ⌝ }
 {
-    book.commitment[8 * h + k]
+    let commitment = book.commitment;
+    commitment[8 * h + k]
 }
 
 pub fn mark_at(book: Book, h: usize) -> u64
     requires { ⌜ h < hours ⌝ }
     ensures { λ r. ⌜ r ≡ markAt book h ⌝ }
 {
-    book.mark[h]
+    let mark = book.mark;
+    mark[h]
 }
 
 pub fn energy_at(book: Book, h: usize, k: usize) -> HubGrains
     requires { ⌜ (h < hours) × (k < places) ⌝ }
     ensures { λ r. ⌜ r ≡ energyAt book h k ⌝ }
 {
-    book.energy[8 * h + k]
+    let energy = book.energy;
+    energy[8 * h + k]
 }
 
 pub fn amounts_at(book: Book, h: usize, k: usize) -> Amounts
     requires { ⌜ (h < hours) × (k < places) ⌝ }
     ensures { λ r. ⌜ r ≡ amountsAt book h k ⌝ }
 {
-    book.amounts[8 * h + k]
+    let amounts = book.amounts;
+    amounts[8 * h + k]
 }
 
 // An hour's commitments, by place.
@@ -77,10 +86,11 @@ pub fn hour_commitments(book: Book, h: usize) -> [HubKwh; 8]
     requires { ⌜ h < hours ⌝ }
     ensures { λ r. ⌜ r ≡ hourCommitments book h ⌝ }
 {
+    let commitment = book.commitment;
     let mut row = [HubKwh(0); 8];
     let mut k: usize = 0;
     while k < 8 {
-        let kwh = book.commitment[8 * h + k];
+        let kwh = commitment[8 * h + k];
         row[k] = kwh;
         k += 1;
     }
@@ -92,12 +102,13 @@ pub fn hour_amounts(book: Book, h: usize) -> [Amounts; 8]
     requires { ⌜ h < hours ⌝ }
     ensures { λ r. ⌜ r ≡ hourAmounts book h ⌝ }
 {
+    let amounts = book.amounts;
     let none = Amounts { item: [0i64; 5] };
     let mut row = [none; 8];
     let mut k: usize = 0;
     while k < 8 {
-        let amounts = book.amounts[8 * h + k];
-        row[k] = amounts;
+        let its = amounts[8 * h + k];
+        row[k] = its;
         k += 1;
     }
     row
@@ -113,50 +124,6 @@ pub fn with_commitment(book: Book, h: usize, k: usize, kwh: HubKwh) -> Book
     b
 }
 
-// The energies with those of the plant's units in hour h replaced.
-fn stored_energies(
-    energy: [HubGrains; 192],
-    h: usize,
-    units: u64,
-    new: [HubGrains; 8],
-) -> [HubGrains; 192]
-    requires { ⌜ h < hours ⌝ }
-    ensures { λ r. ⌜ r ≡ stored noGrains h units new energy ⌝ }
-{
-    let mut kept = energy;
-    let mut k: usize = 0;
-    while k < 8 {
-        if units::member_at(units, k) {
-            let grains = new[k];
-            kept[8 * h + k] = grains;
-        }
-        k += 1;
-    }
-    kept
-}
-
-// The amounts with those of the plant's units in hour h replaced.
-fn stored_amounts(
-    amounts: [Amounts; 192],
-    h: usize,
-    units: u64,
-    new: [Amounts; 8],
-) -> [Amounts; 192]
-    requires { ⌜ h < hours ⌝ }
-    ensures { λ r. ⌜ r ≡ stored pastAmounts h units new amounts ⌝ }
-{
-    let mut kept = amounts;
-    let mut k: usize = 0;
-    while k < 8 {
-        if units::member_at(units, k) {
-            let item = new[k];
-            kept[8 * h + k] = item;
-        }
-        k += 1;
-    }
-    kept
-}
-
 // The book with an hour's mark and the energies and amounts of the plant's units replaced.
 pub fn with_hour(book: Book, h: usize, mark: u64, units: u64, result: HourResult) -> Book
     requires { ⌜ h < hours ⌝ }
@@ -164,12 +131,16 @@ pub fn with_hour(book: Book, h: usize, mark: u64, units: u64, result: HourResult
 {
     let mut b = book;
     b.mark[h] = mark;
-    let energy = book.energy;
-    let new_energy = result.energy;
-    b.energy = stored_energies(energy, h, units, new_energy);
-    let amounts = book.amounts;
-    let new_amounts = result.amounts;
-    b.amounts = stored_amounts(amounts, h, units, new_amounts);
+    let mut k: usize = 0;
+    while k < 8 {
+        if units::member_at(units, k) {
+            let grains = result.energy[k];
+            let amounts = result.amounts[k];
+            b.energy[8 * h + k] = grains;
+            b.amounts[8 * h + k] = amounts;
+        }
+        k += 1;
+    }
     b
 }
 
@@ -205,36 +176,93 @@ pub fn limit_at(sheet: Sheet, h: usize, k: usize) -> HubKwh
     limit_of(units::member_at(sheet.units, k), o)
 }
 
-// Whether no commitment of place k exceeds its limit.
-fn place_holds(member: bool, u: UnitSheet, commitment: [HubKwh; 192], k: usize) -> bool
-    requires { ⌜ k < places ⌝ }
-    ensures { λ r. ⌜ r ≡ placeHolds member u commitment k ⌝ }
+// The commitments as numbers.
+fn kwh_of(commitment: [HubKwh; 192]) -> [u64; 192]
+    ensures { λ r. ⌜ r ≡ kwhOf commitment ⌝ }
+{
+    let mut kwh = [0u64; 192];
+    let mut i: usize = 0;
+    while i < 192 {
+        let held = commitment[i];
+        kwh[i] = held.0;
+        i += 1;
+    }
+    kwh
+}
+
+// Whether place k has a commitment over 0.
+fn is_committed(kwh: &[u64], k: usize) -> bool
+    requires { ⌜ (k < places) × (length (now kwh) ≡ entries) ⌝ }
+    ensures { λ r. ⌜ (r ≡ false → (h : ℕ) → h < hours → getD (now (kwh .entry)) (entryOf h k) 0 ≡ 0) ⌝ }
 {
     let mut h: usize = 0;
     while h < 24 {
-        let o = u.offers[h];
-        let kwh = commitment[8 * h + k];
-        let limit = limit_of(member, o);
-        if kwh.0 > limit.0 {
-            return false;
+        if kwh[8 * h + k] > 0 {
+            return true;
+        }
+        h += 1;
+    }
+    false
+}
+
+// Whether no commitment of place k exceeds its limit.
+fn place_holds(member: bool, u: UnitSheet, kwh: &[u64], k: usize) -> bool
+    requires { ⌜ (k < places) × (length (now kwh) ≡ entries) ⌝ }
+    ensures { λ r. ⌜ r ≡ keptTo member u (now (kwh .entry)) k ⌝ }
+{
+    let mut h: usize = 0;
+    while h < 24 {
+        let held = kwh[8 * h + k];
+        if held > 0 {
+            let o = u.offers[h];
+            let limit = limit_of(member, o);
+            if held > limit.0 {
+                return false;
+            }
         }
         h += 1;
     }
     true
 }
 
-fn commitments_hold(units: u64, unit: [UnitSheet; 8], commitment: [HubKwh; 192]) -> bool
-    ensures { λ r. ⌜ r ≡ commitmentsHold units unit commitment ⌝ }
+// The same; the unit's offers are looked at only where it has a commitment.
+fn unit_holds(units: u64, u: UnitSheet, kwh: &[u64], k: usize) -> bool
+    requires { ⌜ (k < places) × (length (now kwh) ≡ entries) ⌝ }
+    ensures { λ r. ⌜ r ≡ keptTo (memberAt units k) u (now (kwh .entry)) k ⌝ }
 {
-    let mut k: usize = 0;
-    while k < 8 {
-        let u = unit[k];
-        if !place_holds(units::member_at(units, k), u, commitment, k) {
-            return false;
-        }
-        k += 1;
+    if !is_committed(kwh, k) {
+        return true;
     }
-    true
+    place_holds(units::member_at(units, k), u, kwh, k)
+}
+
+fn commitments_hold(sheet: Sheet, kwh: &[u64]) -> bool
+    requires { ⌜ length (now kwh) ≡ entries ⌝ }
+    ensures { λ r. ⌜ r ≡ every places (λ (k : ℕ). keptTo (memberAt (sheet .units) k) (unitAt (sheet .unit) k) (now (kwh .entry)) k) ⌝ }
+{
+    let units = sheet.units;
+    if !unit_holds(units, sheet.unit[0], kwh, 0) {
+        return false;
+    }
+    if !unit_holds(units, sheet.unit[1], kwh, 1) {
+        return false;
+    }
+    if !unit_holds(units, sheet.unit[2], kwh, 2) {
+        return false;
+    }
+    if !unit_holds(units, sheet.unit[3], kwh, 3) {
+        return false;
+    }
+    if !unit_holds(units, sheet.unit[4], kwh, 4) {
+        return false;
+    }
+    if !unit_holds(units, sheet.unit[5], kwh, 5) {
+        return false;
+    }
+    if !unit_holds(units, sheet.unit[6], kwh, 6) {
+        return false;
+    }
+    unit_holds(units, sheet.unit[7], kwh, 7)
 }
 
 // Whether each hour is marked open or settled.
@@ -297,9 +325,9 @@ fn amounts_hold(amounts: [Amounts; 192]) -> bool
 pub fn book_holds(sheet: Sheet, book: Book) -> bool
     ensures { λ r. ⌜ r ≡ bookHolds sheet book ⌝ }
 {
-    let unit = sheet.unit;
     let commitment = book.commitment;
-    if !commitments_hold(sheet.units, unit, commitment) {
+    let kwh = kwh_of(commitment);
+    if !commitments_hold(sheet, &kwh) {
         return false;
     }
     let mark = book.mark;

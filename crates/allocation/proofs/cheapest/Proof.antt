@@ -1,6 +1,6 @@
--- The loop's invariant: `found` is the best of the units passed.
+-- The loop's invariant: `found` is the best of the units passed, and `low` the price of its next block.
 -- Assumes nothing.
-use mathlib.Core.Path.{_≡_, sym, _∙_, ap}
+use mathlib.Core.Path.{_≡_, refl, sym, _∙_, ap}
 use mathlib.Core.Bool.{Bool}
 use mathlib.Core.Logic.{⊎-elim}
 use Prim.Native.Nat.{ℕ, _-_, _≤_}
@@ -8,23 +8,26 @@ use native.Mathlib.Omega.{arith}
 use borrow.Author.Tests.{lt-ltb, le-ltb}
 use lib.Dec.{ltb}
 use Rattle.allocation.specs.declared.Pick.{Pick}
+use Rattle.allocation.specs.declared.Pick.the-variants.{At as at}
 use Rattle.allocation.specs.Fill.{grainsAt, better, best}
 use Rattle.allocation.specs.Blocks.{blockPrice}
-use Rattle.allocation.proofs.Rounds.{best-free, best-full, best-below}
+use Rattle.allocation.proofs.Rounds.{best-free, best-full, low-after}
 use borrow.Author.Needs.{needs}
 use Rattle.allocation.proofs.cheapest.Statement.{statement}
 use Rattle.allocation.proofs.cheapest.Tie as tie
 
 abbrev Inv-loop : tie.InvT-loop
-Inv-loop blocks energies ceilings found₀ v₀ found v =
-    (v ≤ 8) × (found ≡ best (blockPrice blocks) (λ u. ltb (grainsAt energies u) (grainsAt ceilings u)) v)
+Inv-loop energies ceilings blocks found₀ low₀ v₀ found low v =
+    (v ≤ 8)
+    × (found ≡ best (blockPrice blocks) (λ u. ltb (grainsAt energies u) (grainsAt ceilings u)) v)
+    × ((u : ℕ) → found ≡ at u → blockPrice blocks u ≡ low)
 
 abbrev μ-loop : tie.MeasureT-loop
-μ-loop blocks energies ceilings found₀ v₀ found v = 8 - v
+μ-loop energies ceilings blocks found₀ low₀ v₀ found low v = 8 - v
 
 loop-holds : tie.Need-loop-holds Inv-loop μ-loop
 unfolding best
-loop-holds c = search needs
+loop-holds c = (omega arith, refl, λ u e. absurd (let z : _≡_ {A = ℕ} 0 1 = cc in omega arith))
 
 mul-has : tie.Need-mul-has Inv-loop μ-loop
 mul-has c = search needs
@@ -38,12 +41,17 @@ mul-limit c = search needs
 array-copy-out-limit : tie.Need-array-copy-out-limit Inv-loop μ-loop
 array-copy-out-limit c = search needs
 
+mul-block : tie.Need-mul-block Inv-loop μ-loop
+mul-block c = search needs
+
+array-copy-out-block : tie.Need-array-copy-out-block Inv-loop μ-loop
+array-copy-out-block c = search needs
+
 better-of-requires : tie.Need-better-of-requires Inv-loop μ-loop
-better-of-requires c κs =
-    let a = c .before .before .before .before .before .before .before .args in
-    let l = c .before .before .before .before .before .before .loop in
-    let room : ℕ → Bool = λ u. ltb (grainsAt (a .t1) u) (grainsAt (a .t2) u) in
-    (omega arith, λ u e. omega (arith, best-below (blockPrice (a .blocks)) room (l .v) u (sym (l .inv .1) ∙ e), l .inv .0))
+better-of-requires c κs = search needs
+
+lower-of-requires : tie.Need-lower-of-requires Inv-loop μ-loop
+lower-of-requires c κs = search needs
 
 add-v : tie.Need-add-v Inv-loop μ-loop
 add-v c = search needs
@@ -53,23 +61,34 @@ loop-less c = search needs
 
 loop-again : tie.Need-loop-again Inv-loop μ-loop
 loop-again c =
-    let a = c .before .before .before .before .before .before .before .args in
-    let l = c .before .before .before .before .before .before .loop in
+    let a = c .before .before .before .before .before .before .before .before .args in
+    let l = c .before .before .before .before .before .before .before .loop in
     let room : ℕ → Bool = λ u. ltb (grainsAt (a .t1) u) (grainsAt (a .t2) u) in
-    let next : ℕ → ℕ = blockPrice (a .blocks) in
+    let next : ℕ → ℕ = blockPrice (a .t3) in
     ⊎-elim
+    (λ w.
+    let better-is = w .1 .ensures next refl (l .inv .2) in (
+      omega arith,
+      w .3
+          ∙ (better-is
+          ∙ (ap (λ (q : Pick). better next q (l .v)) (l .inv .1)
+          ∙ best-free next room (l .v) (lt-ltb (grainsAt (a .t1) (l .v)) (grainsAt (a .t2) (l .v)) (omega (arith, w .0 .taken))))),
+      low-after next (l .v) (l .low) (c .if1 .low) (next (l .v)) refl (l .found) (l .inv .2) (λ n. w .4 ∙ w .2 .ensures .0 n)
+          (λ u e. w .4 ∙ w .2 .ensures .1 u e)
+          (c .if1 .found) (w .3 ∙ better-is),
+    ))
     (λ w. (
       omega arith,
-      w .2 ∙ (w .1 .ensures ∙ (ap (λ (q : Pick). better next q (l .v)) (l .inv .1) ∙ best-free next room (l .v) (lt-ltb (grainsAt (a .t1) (l .v)) (grainsAt (a .t2) (l .v)) (omega (arith, w .0 .taken))))),
+      w .1 ∙ (l .inv .1 ∙ best-full next room (l .v) (le-ltb (grainsAt (a .t1) (l .v)) (grainsAt (a .t2) (l .v)) (omega (arith, w .0 .left)))),
+      λ u e. l .inv .2 u (sym (w .1) ∙ e) ∙ sym (w .2),
     ))
-    (λ w. (omega arith, w .1 ∙ (l .inv .1 ∙ best-full next room (l .v) (le-ltb (grainsAt (a .t1) (l .v)) (grainsAt (a .t2) (l .v)) (omega (arith, w .0 .left))))))
     (c .if1 .came)
 
 returns : tie.Need-returns Inv-loop μ-loop
 returns c =
     let a = c .before .before .args in
     let l = c .before .loop in
-    l .inv .1 ∙ ap (best (blockPrice (a .blocks)) (λ u. ltb (grainsAt (a .t1) u) (grainsAt (a .t2) u))) (omega arith)
+    l .inv .1 ∙ ap (best (blockPrice (a .t3)) (λ u. ltb (grainsAt (a .t1) u) (grainsAt (a .t2) u))) (omega arith)
 
 pub cheapest-spec : {M : Type 1} → statement M
 cheapest-spec =
@@ -82,7 +101,10 @@ cheapest-spec =
     array-copy-out-has
     mul-limit
     array-copy-out-limit
+    mul-block
+    array-copy-out-block
     better-of-requires
+    lower-of-requires
     add-v
     loop-less
     loop-again

@@ -1,41 +1,53 @@
 -- The sum of each kind passed is 0.
 -- Assumes nothing.
-use mathlib.Core.Path.{_≡_, refl, ap, sym, _∙_}
-use Prim.Native.Nat.{ℕ, _+_, _-_, _≤_}
-use mathlib.Core.Bool.{true}
+use mathlib.Core.Path.{_≡_, ap, sym, _∙_}
+use mathlib.Core.List.{List}
+use Prim.Native.Nat.{ℕ, suc, _+_, _-_, _≤_, _<_}
 use native.Mathlib.Omega.{arith}
-use Rattle.finite.specs.Finite.{every}
-use Rattle.finite.proofs.Tests.{every-next, every-fails}
 use borrow.Author.Tests.{eq-eqb, ne-eqb}
 use lib.Dec.{eqb}
+use lib.ListN.{getD}
+use Rattle.finite.proofs.Sums.{extend}
+use Rattle.finite.proofs.Tests.{every-all, every-fails}
 use Rattle.formulas.specs.Items.{firstKind, kinds}
 use Rattle.settlement.specs.Deviation.{proportion}
 use Rattle.settlement.specs.Refusals.{noProportion}
+use Rattle.settlement.proofs.Weights.{proportion-at}
 use borrow.Author.Needs.{needs}
 use Rattle.settlement.proofs.no_proportion.Statement.{statement}
 use Rattle.settlement.proofs.no_proportion.Tie as tie
 
 abbrev Inv-loop : tie.InvT-loop
-Inv-loop own u j₀ j = (j ≤ kinds) × (every j (λ i. eqb (proportion own u (firstKind + i)) 0) ≡ true)
+Inv-loop own sums j₀ j = (j ≤ kinds) × ((i : ℕ) → i < j → getD sums i 0 ≡ 0)
 
 abbrev μ-loop : tie.MeasureT-loop
-μ-loop own u j₀ j = kinds - j
+μ-loop own sums j₀ j = kinds - j
+
+-- each sum is its kind's
+its : (c : tie.After-proportions Inv-loop μ-loop) → (j : ℕ) → j < kinds
+    → proportion (c .before .args .own) (c .before .args .u) (firstKind + j) ≡ getD (c .proportions .result) j 0
+its c j l =
+    let a = c .before .args in
+    sym (ap (λ (s : List ℕ). getD s j 0) (c .proportions .ensures) ∙ proportion-at (a .own) (a .u) (c .before .pre .1) j l)
+
+proportions-requires : tie.Need-proportions-requires Inv-loop μ-loop
+proportions-requires c κs = search needs
 
 loop-holds : tie.Need-loop-holds Inv-loop μ-loop
-unfolding every
-loop-holds c = (omega arith, refl)
+loop-holds c = (omega arith, λ i l. absurd (omega arith))
 
-add-proportion : tie.Need-add-proportion Inv-loop μ-loop
-add-proportion c = search needs
+mul-if1 : tie.Need-mul-if1 Inv-loop μ-loop
+mul-if1 c = search needs
 
-proportion-requires : tie.Need-proportion-requires Inv-loop μ-loop
-proportion-requires c κs = search needs
+array-read-if1 : tie.Need-array-read-if1 Inv-loop μ-loop
+array-read-if1 c = search needs
 
 returns : tie.Need-returns Inv-loop μ-loop
 unfolding noProportion
 returns c =
     let a = c .before .before .before .before .args in
-    sym (every-fails kinds (c .before .before .before .loop .j) (λ i. eqb (proportion (a .own) (a .u) (firstKind + i)) 0) (omega arith) (ne-eqb _ _ (λ e. c .if1 .taken (c .before .proportion .ensures ∙ e))))
+    let j = c .before .before .loop .j in
+    sym (every-fails kinds j (λ i. eqb (proportion (a .own) (a .u) (firstKind + i)) 0) (omega arith) (ne-eqb _ _ (λ e. c .if1 .taken (sym (its (c .before .before .before) j (omega arith)) ∙ e))))
 
 add-j : tie.Need-add-j Inv-loop μ-loop
 add-j c = search needs
@@ -45,17 +57,19 @@ loop-less c = search needs
 
 loop-again : tie.Need-loop-again Inv-loop μ-loop
 loop-again c =
-    let a = c .before .before .before .before .args in
-    let l = c .before .before .before .loop in
-    (omega arith, every-next (l .j) (λ i. eqb (proportion (a .own) (a .u) (firstKind + i)) 0) (l .inv .1) (eq-eqb _ _ (sym (c .before .proportion .ensures) ∙ c .if1 .left)))
+    let l = c .before .before .loop in (
+      omega arith,
+      λ i q.
+          extend (λ i. getD (c .before .before .before .proportions .result) i 0 ≡ 0) (l .j) (l .inv .1) (c .if1 .left) i
+          (let q' : i < suc (l .j) = omega arith in q'),
+    )
 
 returns-2 : tie.Need-returns-2 Inv-loop μ-loop
 unfolding noProportion
 returns-2 c =
-    let a = c .before .before .args in
+    let a = c .before .before .before .args in
     let l = c .before .loop in
-    let e : l .j ≡ kinds = omega arith in
-    sym (l .inv .1) ∙ ap (λ (n : ℕ). every n (λ i. eqb (proportion (a .own) (a .u) (firstKind + i)) 0)) e
+    sym (every-all kinds (λ i. eqb (proportion (a .own) (a .u) (firstKind + i)) 0) (λ i q. eq-eqb _ _ (its (c .before .before) i q ∙ l .inv .1 i (omega arith))))
 
 pub no-proportion-spec : {M : Type 1} → statement M
 no-proportion-spec =
@@ -63,9 +77,10 @@ no-proportion-spec =
     (tie.spec
     Inv-loop
     μ-loop
+    proportions-requires
     loop-holds
-    add-proportion
-    proportion-requires
+    mul-if1
+    array-read-if1
     returns
     add-j
     loop-less

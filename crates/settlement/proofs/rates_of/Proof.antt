@@ -13,17 +13,17 @@ sub-h c = search needs
 in-season-requires : tie.Need-in-season-requires
 in-season-requires c κs = search needs
 
-mul-t10 : tie.Need-mul-t10
-mul-t10 c = search needs
+mul-t7 : tie.Need-mul-t7
+mul-t7 c = search needs
 
-element-copy-out-t13 : tie.Need-element-copy-out-t13
-element-copy-out-t13 c = search needs
+array-read-t5 : tie.Need-array-read-t5
+array-read-t5 c = search needs
 
 returns : tie.Need-returns
 unfolding ratesOf
 returns c =
     let a = c .before .before .args in
-    λ i. record { season = c .before .in-season .ensures i; loss = a .t1 .loss; bar = a .t1 .bar; cpf = getD (a .t1 .cpf) (a .hour - 1) 0 }
+    λ i. record { season = c .in-season .ensures i; loss = a .sheet .loss; bar = a .sheet .bar; cpf = getD (a .sheet .cpf) (a .hour - 1) 0 }
 
 pub rates-of-spec : {M : Type 1} → statement M
-rates-of-spec = tie.close (tie.spec sub-h in-season-requires mul-t10 element-copy-out-t13 returns)
+rates-of-spec = tie.close (tie.spec sub-h in-season-requires mul-t7 array-read-t5 returns)

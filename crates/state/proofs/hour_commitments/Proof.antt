@@ -3,20 +3,20 @@
 use Prim.Native.Nat.{ℕ, _-_, _≤_}
 use mathlib.Core.Path.{_≡_, refl, ap, sym, _∙_}
 use native.Mathlib.Omega.{arith}
-use lib.ListN.{length, take, length-set}
+use lib.ListN.{length, take, length-set, getD}
 use Rattle.finite.specs.Finite.{tabulate}
 use Rattle.finite.proofs.Tables.{filled-next, filled}
-use Rattle.state.specs.Sizes.{places}
-use Rattle.state.specs.Book.{commitmentAt, hourCommitments}
+use Rattle.state.specs.Sizes.{places, entryOf}
+use Rattle.state.specs.Book.{noKwh, commitmentAt, hourCommitments}
 use borrow.Author.Needs.{needs}
 use Rattle.state.proofs.hour_commitments.Statement.{statement}
 use Rattle.state.proofs.hour_commitments.Tie as tie
 
 abbrev Inv-loop : tie.InvT-loop
-Inv-loop h book row₀ k₀ row k = (k ≤ places) × (length row ≡ places) × (take k row ≡ tabulate k (commitmentAt book h))
+Inv-loop h commitment row₀ k₀ row k = (k ≤ places) × (length row ≡ places) × (take k row ≡ tabulate k (λ k. getD commitment (entryOf h k) noKwh))
 
 abbrev μ-loop : tie.MeasureT-loop
-μ-loop h book row₀ k₀ row k = places - k
+μ-loop h commitment row₀ k₀ row k = places - k
 
 loop-holds : tie.Need-loop-holds Inv-loop μ-loop
 unfolding tabulate
@@ -31,8 +31,8 @@ add-kwh c = search needs
 mul-kwh-2 : tie.Need-mul-kwh-2 Inv-loop μ-loop
 mul-kwh-2 c = search needs
 
-element-copy-out-kwh : tie.Need-element-copy-out-kwh Inv-loop μ-loop
-element-copy-out-kwh c = search needs
+array-copy-out-kwh : tie.Need-array-copy-out-kwh Inv-loop μ-loop
+array-copy-out-kwh c = search needs
 
 mul-row : tie.Need-mul-row Inv-loop μ-loop
 mul-row c = search needs
@@ -49,20 +49,20 @@ loop-less c = search needs
 loop-again : tie.Need-loop-again Inv-loop μ-loop
 loop-again c =
     let l = c .before .before .loop in
-    let a = c .before .before .before .args in (
+    let a = c .before .before .before .before .args in (
       omega arith,
       simp length-set (l .inv .1),
-      filled-next (commitmentAt (a .t1) (a .h)) (l .row) (l .k) _ (omega arith) (l .inv .2) refl,
+      filled-next (commitmentAt (a .book) (a .h)) (l .row) (l .k) _ (omega arith) (l .inv .2) refl,
     )
 
 returns : tie.Need-returns Inv-loop μ-loop
 unfolding hourCommitments
 returns c =
     let l = c .before .loop in
-    let a = c .before .before .args in
+    let a = c .before .before .before .args in
     let all : l .k ≡ places = omega arith in
-    filled (commitmentAt (a .t1) (a .h)) (l .row) places (omega arith)
-    (ap (λ (n : ℕ). take n (l .row)) (sym all) ∙ (l .inv .2 ∙ ap (λ (n : ℕ). tabulate n (commitmentAt (a .t1) (a .h))) all))
+    filled (commitmentAt (a .book) (a .h)) (l .row) places (omega arith)
+    (ap (λ (n : ℕ). take n (l .row)) (sym all) ∙ (l .inv .2 ∙ ap (λ (n : ℕ). tabulate n (commitmentAt (a .book) (a .h))) all))
 
 pub hour-commitments-spec : {M : Type 1} → statement M
 hour-commitments-spec =
@@ -74,7 +74,7 @@ hour-commitments-spec =
     mul-kwh
     add-kwh
     mul-kwh-2
-    element-copy-out-kwh
+    array-copy-out-kwh
     mul-row
     array-set-from-row
     add-k
