@@ -1,6 +1,6 @@
 //! The inputs of the benchmark. They are the same in every run.
 
-use crate::generate::{put_record, put_sheet, put_words};
+use crate::generate::{put_record, put_sheet, put_words, CallList};
 use crate::ledger::Group;
 use crate::random::Random;
 use crate::record::{Record, Span, Spans, UnitRecord};
@@ -86,8 +86,7 @@ pub fn full_record(random: &mut Random, hour: u64, spans: u64) -> Record {
 /// bytes in all. All of it is accepted.
 pub fn largest_day() -> Vec<u8> {
     let sheet = large_sheet();
-    let mut head = Vec::new();
-    put_sheet(&mut head, &sheet);
+    let mut head = text_of(&sheet);
     for hour in 1..=HOURS as u64 {
         put_words(&mut head, "take=", &[hour, hour % 8 + 1, 9_000]);
     }
@@ -140,10 +139,9 @@ pub fn largest_day() -> Vec<u8> {
     text
 }
 
-/// A list of calls on the large sheet that posts 2,000 times (one settle and
-/// 49 restatements of hour 1), and then a settle of hour 2; with the text that
-/// they share. The journal list has to have 2,040 places or more.
-pub fn posted_day() -> (Sheet, Vec<u8>, Vec<Group>) {
+/// A list of calls that posts 2,000 times (one settle and 49 restatements of
+/// hour 1), and then a settle of hour 2.
+pub fn posted_day() -> CallList {
     let sheet = large_sheet();
     let mut random = Random::new(10);
     let mut text = Vec::new();
@@ -163,12 +161,16 @@ pub fn posted_day() -> (Sheet, Vec<u8>, Vec<Group>) {
     let mut groups = vec![group(4, 0)];
     groups.extend((1..50).map(|i| group(5, i % 2)));
     groups.push(group(4, 2));
-    (sheet, text, groups)
+    CallList {
+        sheet: text_of(&sheet),
+        text,
+        groups,
+        places: 2_040,
+    }
 }
 
 /// 10,000 takes, releases and moves, nearly all of them accepted.
-pub fn commitment_calls() -> (Sheet, Vec<Group>) {
-    let sheet = large_sheet();
+pub fn commitment_calls() -> CallList {
     let mut random = Random::new(11);
     let mut held = [[0; UNITS]; HOURS];
     let groups = (0..10_000)
@@ -204,7 +206,25 @@ pub fn commitment_calls() -> (Sheet, Vec<Group>) {
             }
         })
         .collect();
-    (sheet, groups)
+    CallList {
+        sheet: text_of(&large_sheet()),
+        text: Vec::new(),
+        groups,
+        places: 2_000,
+    }
+}
+
+fn text_of(sheet: &Sheet) -> Vec<u8> {
+    let mut text = Vec::new();
+    put_sheet(&mut text, sheet);
+    text
+}
+
+/// The bytes that a list of calls is given: the sheet's text, and for each call
+/// its numbers and its part of the text.
+pub fn bytes_of(list: &CallList) -> usize {
+    let part = |group: &Group| std::mem::size_of::<Group>() + group.part(&list.text).len();
+    list.sheet.len() + list.groups.iter().map(part).sum::<usize>()
 }
 
 #[cfg(test)]
@@ -221,15 +241,23 @@ mod tests {
         let rows = printed.iter().filter(|&&byte| byte == b'\n').count();
         assert_eq!(rows, HOURS * UNITS, "{}", String::from_utf8_lossy(&printed));
 
-        let (sheet, text, groups) = posted_day();
-        let (answers, ledger) = run(sheet, 2_040, &groups, &text, Checks::EveryCall);
+        let carry_out = |list: CallList| {
+            let (sheet, _) = Sheet::read(&list.sheet).unwrap();
+            let CallList {
+                places,
+                groups,
+                text,
+                ..
+            } = list;
+            run(sheet, places, &groups, &text, Checks::EveryCall)
+        };
+        let (answers, ledger) = carry_out(posted_day());
         assert!(answers
             .iter()
             .all(|answer| matches!(answer, Answer::Posted { postings: 40, .. })));
         assert_eq!(ledger.postings().len(), 2_040);
 
-        let (sheet, groups) = commitment_calls();
-        let (answers, _) = run(sheet, 0, &groups, b"", Checks::EveryCall);
+        let (answers, _) = carry_out(commitment_calls());
         let accepted = answers.iter().filter(|&&answer| answer == Answer::Accepted);
         assert!(accepted.count() > 9_900);
     }

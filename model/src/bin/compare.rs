@@ -78,7 +78,10 @@ fn lists(
         }
         seen.cases += 1;
         match by_model {
-            Ok(left) => left.replies.iter().for_each(|reply| seen.count(reply.number)),
+            Ok(left) => left
+                .replies
+                .iter()
+                .for_each(|reply| seen.count(reply.number)),
             Err(refusal) => seen.count(u64::from(refusal.number)),
         }
     }
@@ -93,16 +96,12 @@ fn product_run(product: &mut Calls, list: &CallList) -> Result<Left, Refusal> {
 
 fn model_run(list: &CallList) -> Result<Left, Refusal> {
     let (sheet, _) = Sheet::read(&list.sheet)?;
-    let (answers, ledger) = ledger::run(
-        sheet,
-        list.places,
-        &list.groups,
-        &list.text,
-        Checks::Once,
-    );
+    let (answers, ledger) = ledger::run(sheet, list.places, &list.groups, &list.text, Checks::Once);
     let replies = list.groups.iter().zip(&answers);
     Ok(Left {
-        replies: replies.map(|(group, answer)| reply(group, answer)).collect(),
+        replies: replies
+            .map(|(group, answer)| reply(group, answer))
+            .collect(),
         commitments: *ledger.commitments(),
         marks: std::array::from_fn(|h| u64::from(ledger.record(h).is_some())),
         energies: std::array::from_fn(|h| ledger.result(h).energies),
@@ -205,10 +204,22 @@ fn differences(model: &Left, product: &Left) -> String {
             }
         };
         let words = |value: &dyn std::fmt::Debug| format!("{value:?}");
-        part("commitments", words(&model.commitments[h]), words(&product.commitments[h]));
+        part(
+            "commitments",
+            words(&model.commitments[h]),
+            words(&product.commitments[h]),
+        );
         part("mark", words(&model.marks[h]), words(&product.marks[h]));
-        part("energies", words(&model.energies[h]), words(&product.energies[h]));
-        part("amounts", words(&model.amounts[h]), words(&product.amounts[h]));
+        part(
+            "energies",
+            words(&model.energies[h]),
+            words(&product.energies[h]),
+        );
+        part(
+            "amounts",
+            words(&model.amounts[h]),
+            words(&product.amounts[h]),
+        );
     }
     out
 }
