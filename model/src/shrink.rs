@@ -166,7 +166,10 @@ struct Apart {
 
 impl Apart {
     fn of(list: &CallList) -> Apart {
-        let apart = |group: &Group| (*group, group.part(&list.text).to_vec());
+        let apart = |group: &Group| match group.kind {
+            4 | 5 => (*group, group.part(&list.text).to_vec()),
+            _ => (*group, Vec::new()),
+        };
         Apart {
             sheet: list.sheet.clone(),
             calls: list.groups.iter().map(apart).collect(),
