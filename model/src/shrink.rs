@@ -63,11 +63,13 @@ fn shrink_number(mut number: u64, mut fails: impl FnMut(u64) -> bool) -> u64 {
     number
 }
 
-/// A day's text: units are left out too.
+/// A day's text: whole records and units are left out too.
 pub fn shrink_day(text: &[u8], mut fails: impl FnMut(&[u8]) -> bool) -> Vec<u8> {
     let mut text = text.to_vec();
     loop {
         let before = text.clone();
+        let parts = parts(&text);
+        text = shrink_list(parts, |parts: &[&[u8]]| fails(&parts.concat())).concat();
         for unit in 1..=UNITS as u64 {
             let without = without_unit(&text, mask(&text), unit);
             if fails(&without) {
@@ -82,8 +84,13 @@ pub fn shrink_day(text: &[u8], mut fails: impl FnMut(&[u8]) -> bool) -> Vec<u8> 
 }
 
 /// A list of calls: calls and units are left out, the sheet and the records
-/// shortened, the numbers made smaller.
-pub fn shrink_calls(list: &CallList, mut fails: impl FnMut(&CallList) -> bool) -> CallList {
+/// shortened, the numbers made smaller. Once it is `late`, what was found is
+/// enough.
+pub fn shrink_calls(
+    list: &CallList,
+    late: impl Fn() -> bool,
+    mut fails: impl FnMut(&CallList) -> bool,
+) -> CallList {
     let mut small = Apart::of(list);
     if !fails(&small.together()) {
         // It fails only where the records lie in one text.
@@ -112,6 +119,9 @@ pub fn shrink_calls(list: &CallList, mut fails: impl FnMut(&CallList) -> bool) -
             }
         }
         for at in 0..small.calls.len() {
+            if late() {
+                return small.together();
+            }
             let record = small.calls[at].1.clone();
             small.calls[at].1 = shrink_text(&record, |text| {
                 let mut other = small.clone();
@@ -216,6 +226,28 @@ impl Apart {
     }
 }
 
+/// The parts of a day's text: the sheet, each record, each other line.
+fn parts(text: &[u8]) -> Vec<&[u8]> {
+    let mut parts = Vec::new();
+    let mut begin = 0;
+    let mut end = 0;
+    // The sheet comes first.
+    let mut inside = true;
+    for line in text.split_inclusive(|&byte| byte == b'\n') {
+        inside |= line.starts_with(b"hour=");
+        end += line.len();
+        if line.starts_with(b"end=") {
+            inside = false;
+        }
+        if !inside {
+            parts.push(&text[begin..end]);
+            begin = end;
+        }
+    }
+    parts.push(&text[begin..]);
+    parts
+}
+
 /// The units that a sheet's text names, 0 where it does not.
 fn mask(sheet: &[u8]) -> u64 {
     let mut lines = sheet.split(|&byte| byte == b'\n');
@@ -283,6 +315,8 @@ mod tests {
         let without = b"units=1\nown=1\noffer=1\nend=sheet\ntake=1:1:3\n\
             hour=3\ndeclared=1\nspans=1\nend=hour\n";
         assert_eq!(mask(text), 5);
+        let lengths: Vec<usize> = parts(text).iter().map(|part| part.len()).collect();
+        assert_eq!(lengths, [46, 11, 11, 54, 0]);
         assert_eq!(without_unit(text, 5, 3), without);
         assert_eq!(without_unit(text, 5, 2), text);
     }

@@ -12,6 +12,7 @@ use model::{product, shrink, statement, HOURS, ITEMS, UNITS};
 use std::collections::BTreeMap;
 use std::process::ExitCode;
 use std::sync::atomic::{AtomicU64, Ordering::Relaxed};
+use std::time::{Duration, Instant};
 
 /// The numbers that texts and calls come to. 9 and 12 do not come: a sheet
 /// that was read keeps its ranges, and so does what calls leave.
@@ -24,6 +25,9 @@ const ENOUGH: u64 = 1_000;
 
 /// Seed, days, lists, long lists, threads.
 const USUAL: [u64; 5] = [1, 1_000_000, 200_000, 100, 1];
+
+/// How long a case is made smaller.
+const SHRINKING: Duration = Duration::from_secs(60);
 
 /// The product keeps its journal list on the stack.
 const STACK: usize = 64 << 20;
@@ -267,7 +271,10 @@ fn explain_day(random: &mut Random) -> String {
     if differs(&text, product::STATEMENT) {
         room = product::STATEMENT;
     }
-    let text = shrink::shrink_day(&text, |text| differs(text, room));
+    let start = Instant::now();
+    let text = shrink::shrink_day(&text, |text| {
+        start.elapsed() < SHRINKING && differs(text, room)
+    });
     let model = by_model(&text, room);
     let product = by_product(&text, room);
     let (text, model, product) = (show(&text), show(&model), show(&product));
@@ -339,7 +346,11 @@ fn explain_list((list, mut lengths): List) -> String {
     if !run_both(&(list.clone(), None), worker) {
         lengths = None;
     }
-    let small = shrink::shrink_calls(&list, |list| !run_both(&(list.clone(), lengths), worker));
+    let start = Instant::now();
+    let late = || start.elapsed() > SHRINKING;
+    let small = shrink::shrink_calls(&list, late, |list| {
+        !late() && !run_both(&(list.clone(), lengths), worker)
+    });
     let shown = show_list(&small, lengths);
     run_both(&(small, lengths), worker);
     shown + &differences(&worker.by_model, &worker.by_product)
@@ -360,11 +371,20 @@ fn show_list(list: &CallList, lengths: Option<Lengths>) -> String {
     if let Some(lengths) = lengths {
         out = format!("{lengths:?}\n{out}");
     }
-    for group in &list.groups {
-        out += &format!("{group:?}\n");
-        if group.kind == 4 || group.kind == 5 {
-            out += &show(group.part(&list.text));
+    let mut shown: Vec<&[u8]> = Vec::new();
+    for (i, group) in list.groups.iter().enumerate() {
+        out += &format!("call {}: {group:?}\n", i + 1);
+        let record = match group.kind {
+            4 | 5 => group.part(&list.text),
+            _ => b"",
+        };
+        // A record that many calls name is shown once.
+        match shown.iter().position(|other| *other == record) {
+            _ if record.is_empty() => {}
+            Some(at) => out += &format!("record of call {}\n", at + 1),
+            None => out += &show(record),
         }
+        shown.push(record);
     }
     out
 }
