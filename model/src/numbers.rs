@@ -201,3 +201,80 @@ fn put<T>(out: &mut [T], values: impl Iterator<Item = T>) {
         *place = value;
     }
 }
+
+#[cfg(test)]
+mod tests {
+    use super::*;
+    use crate::inputs;
+
+    /// Slices that are too short get the first part of what is written, longer
+    /// ones keep the rest.
+    #[test]
+    fn slices_of_other_lengths() {
+        let list = inputs::posted_day();
+        let numbers = numbers(&list.groups);
+        let given = Given {
+            sheet: &list.sheet,
+            places: list.places as u64 + 3,
+            calls: &numbers,
+            text: &list.text,
+        };
+        let run = |lengths: Lengths| {
+            let mut written = Written::default();
+            written.fit(lengths);
+            written.fill();
+            calls(&given, Checks::Once, &mut written);
+            written
+        };
+        let exact = Lengths::of(list.groups.len(), given.places);
+        let whole = run(exact);
+        assert_eq!(whole.count, 2_040);
+        assert_eq!(whole.postings.len(), POSTING * 2_043);
+        assert_eq!(whole.postings[POSTING * 2_040..], [0; 3 * POSTING]);
+
+        let other = run(Lengths {
+            answers: exact.answers + 1,
+            held: exact.held - 1,
+            amounts: exact.amounts + 1,
+            postings: exact.postings - 1,
+        });
+        assert_eq!(other.answers[..exact.answers], whole.answers);
+        assert_eq!(other.held, whole.held[..exact.held - 1]);
+        assert_eq!(other.amounts[..exact.amounts], whole.amounts);
+        // The last place has no room for its four numbers.
+        let places = exact.postings - POSTING;
+        assert_eq!(other.postings[..places], whole.postings[..places]);
+        assert!(other.postings[places..].iter().all(|&number| number != 0));
+
+        // No more calls than answers.
+        let first = run(Lengths {
+            answers: ANSWER + 3,
+            ..exact
+        });
+        assert_eq!(first.count, 40);
+    }
+
+    #[test]
+    fn refused_sheet() {
+        let mut written = Written::default();
+        written.fit(Lengths::of(1, 5));
+        written.fill();
+        let before = written.clone();
+        let given = Given {
+            sheet: b"month=1\nday=32\n",
+            places: 5,
+            calls: &[6; CALL],
+            text: b"",
+        };
+        calls(&given, Checks::Once, &mut written);
+        let (number, line) = (2, 2);
+        assert_eq!(
+            written,
+            Written {
+                number,
+                line,
+                ..before
+            }
+        );
+    }
+}

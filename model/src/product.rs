@@ -1,5 +1,6 @@
 //! The product's exports (`include/gozalvek.h`), safe to call: every length is
-//! that of a slice. They need some 4 MB of stack.
+//! that of a slice. `calls` needs 4 MB of stack, more than a thread has here
+//! unless it is asked for.
 
 use crate::numbers::{Given, Written};
 

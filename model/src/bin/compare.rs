@@ -237,6 +237,9 @@ fn on_threads<T: Send>(threads: u64, work: impl Fn() -> T + Sync) -> Vec<T> {
 
 // ---- days
 
+/// A byte that no statement has.
+const UNWRITTEN: u8 = 0xA5;
+
 /// A day, and the room for its statement: too little in some cases.
 fn a_day(random: &mut Random) -> (Vec<u8>, usize) {
     let text = generate::day(random);
@@ -255,19 +258,23 @@ fn day_agrees(random: &mut Random, worker: &mut Worker) -> bool {
         Err(refusal) => u64::from(refusal.number),
     });
     let printed = statement::print_outcome(&outcome);
-    let by_product = product::statement(&text, &mut worker.out[..room]);
-    by_product == &printed[..printed.len().min(room)]
+    product_prints(&text, &printed, &mut worker.out[..room])
+}
+
+/// Whether the product writes what is printed as far as there is room, and
+/// nothing after it.
+fn product_prints(text: &[u8], printed: &[u8], out: &mut [u8]) -> bool {
+    out.fill(UNWRITTEN);
+    let length = product::statement(text, out).len();
+    let (written, rest) = out.split_at(length);
+    written == &printed[..printed.len().min(out.len())]
+        && rest.iter().all(|&byte| byte == UNWRITTEN)
 }
 
 fn explain_day(random: &mut Random) -> String {
     let (text, mut room) = a_day(random);
-    let by_model = |text: &[u8], room: usize| {
-        let mut printed = statement::print(text);
-        printed.truncate(room);
-        printed
-    };
-    let by_product = |text: &[u8], room| product::statement(text, &mut vec![0; room]).to_vec();
-    let differs = |text: &[u8], room| by_product(text, room) != by_model(text, room);
+    let differs =
+        |text: &[u8], room| !product_prints(text, &statement::print(text), &mut vec![0; room]);
     if differs(&text, product::STATEMENT) {
         room = product::STATEMENT;
     }
@@ -275,9 +282,9 @@ fn explain_day(random: &mut Random) -> String {
     let text = shrink::shrink_day(&text, |text| {
         start.elapsed() < SHRINKING && differs(text, room)
     });
-    let model = by_model(&text, room);
-    let product = by_product(&text, room);
-    let (text, model, product) = (show(&text), show(&model), show(&product));
+    let model = show(&statement::print(&text));
+    let product = show(product::statement(&text, &mut vec![0; room]));
+    let text = show(&text);
     format!("room for {room} bytes, day:\n{text}model:\n{model}product:\n{product}")
 }
 
