@@ -139,33 +139,40 @@ pub fn largest_day() -> Vec<u8> {
     text
 }
 
-/// A list of calls that posts 2,000 times (one settle and 49 restatements of
-/// hour 1), and then a settle of hour 2.
+/// Settles at the end of `posted_day`.
+pub const SETTLES: usize = HOURS - 1;
+
+/// A settle and 38 restatements of hour 1, which post 1,560 times, and then a
+/// settle of each other hour. Before these 23 settles 1,560 to 2,440 places are
+/// posted, 2,000 in the mean.
 pub fn posted_day() -> CallList {
     let sheet = large_sheet();
     let mut random = Random::new(10);
     let mut text = Vec::new();
-    let mut parts = Vec::new();
-    for hour in [1, 1, 2] {
+    let mut record = |hour: u64| {
         let begin = text.len() as u64;
         let record = full_record(&mut random, hour, 6);
         put_record(&mut text, &sheet, &record, || false);
-        parts.push((begin, text.len() as u64));
-    }
-    let group = |kind: u64, part: usize| Group {
-        kind,
-        begin: parts[part].0,
-        end: parts[part].1,
-        ..Group::default()
+        Group {
+            begin,
+            end: text.len() as u64,
+            ..Group::default()
+        }
     };
-    let mut groups = vec![group(4, 0)];
-    groups.extend((1..50).map(|i| group(5, i % 2)));
-    groups.push(group(4, 2));
+    let hour_1 = [record(1), record(1)];
+    let restate = |i: usize| Group {
+        kind: 5,
+        ..hour_1[i % 2]
+    };
+    let settle = |group: Group| Group { kind: 4, ..group };
+    let mut groups = vec![settle(hour_1[0])];
+    groups.extend((1..39).map(restate));
+    groups.extend((2..=HOURS as u64).map(|hour| settle(record(hour))));
     CallList {
         sheet: text_of(&sheet),
         text,
         groups,
-        places: 2_040,
+        places: 2_480,
     }
 }
 
@@ -255,7 +262,7 @@ mod tests {
         assert!(answers
             .iter()
             .all(|answer| matches!(answer, Answer::Posted { postings: 40, .. })));
-        assert_eq!(ledger.postings().len(), 2_040);
+        assert_eq!(ledger.postings().len(), 2_480);
 
         let (answers, _) = carry_out(commitment_calls());
         let accepted = answers.iter().filter(|&&answer| answer == Answer::Accepted);

@@ -228,9 +228,9 @@ mod tests {
         };
         let exact = Lengths::of(list.groups.len(), given.places);
         let whole = run(exact);
-        assert_eq!(whole.count, 2_040);
-        assert_eq!(whole.postings.len(), POSTING * 2_043);
-        assert_eq!(whole.postings[POSTING * 2_040..], [0; 3 * POSTING]);
+        assert_eq!(whole.count, 2_480);
+        assert_eq!(whole.postings.len(), POSTING * 2_483);
+        assert_eq!(whole.postings[POSTING * 2_480..], [0; 3 * POSTING]);
 
         let other = run(Lengths {
             answers: exact.answers + 1,
