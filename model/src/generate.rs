@@ -173,7 +173,7 @@ fn list_length(random: &mut Random, size: usize) -> usize {
         }
         5 => random.below(200) as usize,
         6..=8 => 2_000,
-        _ => *random.pick(&[100_000, 100_001, 1_000_000]),
+        _ => *random.pick(&[100_000, 100_001, 100_039, 100_040, 1_000_000]),
     }
 }
 

@@ -1,6 +1,6 @@
 //! The inputs of the benchmark. They are the same in every run.
 
-use crate::generate::{put_record, put_sheet, put_words};
+use crate::generate::{put_record, put_sheet, put_words, CallList};
 use crate::ledger::Group;
 use crate::random::Random;
 use crate::record::{Record, Span, Spans, UnitRecord};
@@ -86,8 +86,7 @@ pub fn full_record(random: &mut Random, hour: u64, spans: u64) -> Record {
 /// bytes in all. All of it is accepted.
 pub fn largest_day() -> Vec<u8> {
     let sheet = large_sheet();
-    let mut head = Vec::new();
-    put_sheet(&mut head, &sheet);
+    let mut head = text_of(&sheet);
     for hour in 1..=HOURS as u64 {
         put_words(&mut head, "take=", &[hour, hour % 8 + 1, 9_000]);
     }
@@ -140,35 +139,45 @@ pub fn largest_day() -> Vec<u8> {
     text
 }
 
-/// A list of calls on the large sheet that posts 2,000 times (one settle and
-/// 49 restatements of hour 1), and then a settle of hour 2; with the text that
-/// they share. The journal list has to have 2,040 places or more.
-pub fn posted_day() -> (Sheet, Vec<u8>, Vec<Group>) {
+/// Settles at the end of `posted_day`.
+pub const SETTLES: usize = HOURS - 1;
+
+/// A settle and 38 restatements of hour 1, which post 1,560 times, and then a
+/// settle of each other hour. Before these 23 settles 1,560 to 2,440 places are
+/// posted, 2,000 in the mean.
+pub fn posted_day() -> CallList {
     let sheet = large_sheet();
     let mut random = Random::new(10);
     let mut text = Vec::new();
-    let mut parts = Vec::new();
-    for hour in [1, 1, 2] {
+    let mut record = |hour: u64| {
         let begin = text.len() as u64;
         let record = full_record(&mut random, hour, 6);
         put_record(&mut text, &sheet, &record, || false);
-        parts.push((begin, text.len() as u64));
-    }
-    let group = |kind: u64, part: usize| Group {
-        kind,
-        begin: parts[part].0,
-        end: parts[part].1,
-        ..Group::default()
+        Group {
+            begin,
+            end: text.len() as u64,
+            ..Group::default()
+        }
     };
-    let mut groups = vec![group(4, 0)];
-    groups.extend((1..50).map(|i| group(5, i % 2)));
-    groups.push(group(4, 2));
-    (sheet, text, groups)
+    let hour_1 = [record(1), record(1)];
+    let restate = |i: usize| Group {
+        kind: 5,
+        ..hour_1[i % 2]
+    };
+    let settle = |group: Group| Group { kind: 4, ..group };
+    let mut groups = vec![settle(hour_1[0])];
+    groups.extend((1..39).map(restate));
+    groups.extend((2..=HOURS as u64).map(|hour| settle(record(hour))));
+    CallList {
+        sheet: text_of(&sheet),
+        text,
+        groups,
+        places: 2_480,
+    }
 }
 
 /// 10,000 takes, releases and moves, nearly all of them accepted.
-pub fn commitment_calls() -> (Sheet, Vec<Group>) {
-    let sheet = large_sheet();
+pub fn commitment_calls() -> CallList {
     let mut random = Random::new(11);
     let mut held = [[0; UNITS]; HOURS];
     let groups = (0..10_000)
@@ -204,7 +213,25 @@ pub fn commitment_calls() -> (Sheet, Vec<Group>) {
             }
         })
         .collect();
-    (sheet, groups)
+    CallList {
+        sheet: text_of(&large_sheet()),
+        text: Vec::new(),
+        groups,
+        places: 2_000,
+    }
+}
+
+fn text_of(sheet: &Sheet) -> Vec<u8> {
+    let mut text = Vec::new();
+    put_sheet(&mut text, sheet);
+    text
+}
+
+/// The bytes that a list of calls is given: the sheet's text, and for each call
+/// its numbers and its part of the text.
+pub fn bytes_of(list: &CallList) -> usize {
+    let part = |group: &Group| std::mem::size_of::<Group>() + group.part(&list.text).len();
+    list.sheet.len() + list.groups.iter().map(part).sum::<usize>()
 }
 
 #[cfg(test)]
@@ -221,15 +248,23 @@ mod tests {
         let rows = printed.iter().filter(|&&byte| byte == b'\n').count();
         assert_eq!(rows, HOURS * UNITS, "{}", String::from_utf8_lossy(&printed));
 
-        let (sheet, text, groups) = posted_day();
-        let (answers, ledger) = run(sheet, 2_040, &groups, &text, Checks::EveryCall);
+        let carry_out = |list: CallList| {
+            let (sheet, _) = Sheet::read(&list.sheet).unwrap();
+            let CallList {
+                places,
+                groups,
+                text,
+                ..
+            } = list;
+            run(sheet, places, &groups, &text, Checks::EveryCall)
+        };
+        let (answers, ledger) = carry_out(posted_day());
         assert!(answers
             .iter()
             .all(|answer| matches!(answer, Answer::Posted { postings: 40, .. })));
-        assert_eq!(ledger.postings().len(), 2_040);
+        assert_eq!(ledger.postings().len(), 2_480);
 
-        let (sheet, groups) = commitment_calls();
-        let (answers, _) = run(sheet, 0, &groups, b"", Checks::EveryCall);
+        let (answers, _) = carry_out(commitment_calls());
         let accepted = answers.iter().filter(|&&answer| answer == Answer::Accepted);
         assert!(accepted.count() > 9_900);
     }

@@ -439,13 +439,17 @@ pub struct Group {
 }
 
 impl Group {
+    /// The record's text.
+    pub fn part<'t>(&self, shared: &'t [u8]) -> &'t [u8] {
+        let length = shared.len() as u64;
+        let begin = self.begin.min(length);
+        let end = self.end.min(length).max(begin);
+        &shared[begin as usize..end as usize]
+    }
+
+    /// The call that the group means.
     pub fn call<'t>(&self, shared: &'t [u8]) -> Call<'t> {
-        let text = || {
-            let length = shared.len() as u64;
-            let begin = self.begin.min(length);
-            let end = self.end.min(length).max(begin);
-            &shared[begin as usize..end as usize]
-        };
+        let text = || self.part(shared);
         let start = usize::try_from(self.start).unwrap_or(usize::MAX);
         let Group {
             hour, unit, kwh, ..

@@ -13,6 +13,7 @@ pub mod generate;
 pub mod inputs;
 pub mod items;
 pub mod ledger;
+pub mod numbers;
 #[cfg(feature = "product")]
 pub mod product;
 pub mod random;

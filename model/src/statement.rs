@@ -65,13 +65,18 @@ pub fn print(text: &[u8]) -> Vec<u8> {
 /// What the program prints for what a day's text led to.
 pub fn print_outcome(outcome: &Result<Ledger, Refusal>) -> Vec<u8> {
     let mut out = Vec::new();
+    put_outcome(&mut out, outcome);
+    out
+}
+
+/// Appends it.
+pub fn put_outcome(out: &mut Vec<u8>, outcome: &Result<Ledger, Refusal>) {
     match outcome {
-        Ok(ledger) => put_rows(&mut out, ledger),
+        Ok(ledger) => put_rows(out, ledger),
         Err(refusal) => {
             out.extend_from_slice(b"refused=");
-            put_number(&mut out, i64::from(refusal.number));
+            put_number(out, i64::from(refusal.number));
             out.push(b'\n');
         }
     }
-    out
 }

@@ -1,17 +1,92 @@
-//! Runs random days and lists of calls through the product and the model,
-//! and stops at the first difference, with the smallest input that still
+//! Runs random days and lists of calls through the product and the model, and
+//! stops at the first difference, with the smallest input found that still
 //! differs.
 //!
-//! compare [SEED [DAYS [LISTS [LONG]]]]
+//! compare [SEED [DAYS [LISTS [LONG [THREADS]]]]]
 
 use model::generate::{self, CallList};
-use model::ledger::{self, Answer, Checks, Group};
-use model::product::{self, Calls, Left, Reply};
+use model::ledger::Checks;
+use model::numbers::{self, Given, Lengths, Written, ANSWER, POSTING};
 use model::random::Random;
-use model::sheet::Sheet;
-use model::{shrink, Refusal, HOURS};
+use model::{product, shrink, statement, HOURS, ITEMS, UNITS};
 use std::collections::BTreeMap;
 use std::process::ExitCode;
+use std::sync::atomic::{AtomicU64, Ordering::Relaxed};
+use std::time::{Duration, Instant};
+
+/// The numbers that texts and calls come to. 9 and 12 do not come: a sheet
+/// that was read keeps its ranges, and so does what calls leave.
+const REACHED: [u64; 17] = [
+    1, 2, 3, 4, 10, 11, 20, 21, 22, 23, 24, 31, 32, 33, 40, 41, 42,
+];
+
+/// How often each of them has to be seen in a run of the usual size.
+const ENOUGH: u64 = 1_000;
+
+/// Seed, days, lists, long lists, threads.
+const USUAL: [u64; 5] = [1, 1_000_000, 200_000, 100, 1];
+
+/// How long a case is made smaller.
+const SHRINKING: Duration = Duration::from_secs(60);
+
+/// The product keeps its journal list on the stack.
+const STACK: usize = 64 << 20;
+
+fn main() -> ExitCode {
+    let mut size = USUAL;
+    for (at, word) in std::env::args().skip(1).enumerate() {
+        match (size.get_mut(at), word.parse()) {
+            (Some(number), Ok(given)) => *number = given,
+            _ => {
+                eprintln!("usage: compare [SEED [DAYS [LISTS [LONG [THREADS]]]]]");
+                return ExitCode::FAILURE;
+            }
+        }
+    }
+    match compare(size) {
+        Ok(seen) => {
+            let enough = report(&seen);
+            let usual = (1..4).all(|at| size[at] >= USUAL[at]);
+            if usual && !enough {
+                return ExitCode::FAILURE;
+            }
+            ExitCode::SUCCESS
+        }
+        Err(difference) => {
+            println!("{difference}");
+            ExitCode::FAILURE
+        }
+    }
+}
+
+/// What was seen of days, lists and long lists, or the first difference.
+fn compare([seed, days, lists, long, threads]: [u64; 5]) -> Result<[Seen; 3], String> {
+    let day = Kind {
+        name: "days",
+        number: 0,
+        agree: day_agrees,
+        explain: explain_day,
+    };
+    let list = Kind {
+        name: "lists",
+        number: 2,
+        agree: |random, worker| list_agrees(&a_list(random, generate::call_list), worker),
+        explain: |random| explain_list(a_list(random, generate::call_list)),
+    };
+    let long_list = Kind {
+        name: "long lists",
+        number: 3,
+        agree: |random, worker| list_agrees(&a_list(random, generate::long_list), worker),
+        explain: |random| explain_list(a_list(random, generate::long_list)),
+    };
+    Ok([
+        day.every_case(seed, days, threads)?,
+        list.every_case(seed, lists, threads)?,
+        long_list.every_case(seed, long, threads)?,
+    ])
+}
+
+// ---- counts
 
 /// How often each was seen.
 #[derive(Default)]
@@ -30,148 +105,265 @@ impl Seen {
         }
     }
 
-    fn print(&self, name: &str) {
-        println!("{name}: {} cases agree", self.cases);
-        println!("  accepted {}", self.accepted);
-        for (number, count) in &self.refused {
-            println!("  refused {number}: {count}");
+    fn times(&self, number: u64) -> u64 {
+        self.refused.get(&number).copied().unwrap_or(0)
+    }
+
+    fn add(&mut self, other: Seen) {
+        self.cases += other.cases;
+        self.accepted += other.accepted;
+        for (number, times) in other.refused {
+            *self.refused.entry(number).or_default() += times;
         }
     }
 }
 
-fn main() -> ExitCode {
-    let numbers: Vec<u64> = std::env::args()
-        .skip(1)
-        .map(|arg| arg.parse().expect("numbers: SEED DAYS LISTS LONG"))
-        .collect();
-    let number = |at: usize, usual: u64| numbers.get(at).copied().unwrap_or(usual);
-    let seed = number(0, 1);
-    let outcome = lists(seed, number(2, 20_000), "lists", 2, generate::call_list)
-        .and_then(|()| lists(seed, number(3, 20), "long lists", 3, generate::long_list));
-    match outcome {
-        Ok(()) => ExitCode::SUCCESS,
-        Err(difference) => {
-            println!("{difference}");
-            ExitCode::FAILURE
-        }
-    }
-}
-
-fn lists(
-    seed: u64,
-    count: u64,
-    name: &str,
-    kind: u64,
-    make: fn(&mut Random) -> CallList,
-) -> Result<(), String> {
-    let mut seen = Seen::default();
-    let mut product = Calls::default();
-    for case in 0..count {
-        let mut list = make(&mut Random::for_case(seed, 4 * case + kind));
-        list.places = 2_000;
-        let by_model = model_run(&list);
-        if product_run(&mut product, &list) != by_model {
-            return Err(format!(
-                "seed {seed}, {name}, case {case} differs\n{}",
-                smallest(list, &mut product)
-            ));
-        }
-        seen.cases += 1;
-        match by_model {
-            Ok(left) => left.replies.iter().for_each(|reply| seen.count(reply.number)),
-            Err(refusal) => seen.count(u64::from(refusal.number)),
-        }
-    }
-    seen.print(name);
-    Ok(())
-}
-
-fn product_run(product: &mut Calls, list: &CallList) -> Result<Left, Refusal> {
-    product.run(&list.sheet, &product::numbers(&list.groups), &list.text)?;
-    Ok(product.left())
-}
-
-fn model_run(list: &CallList) -> Result<Left, Refusal> {
-    let (sheet, _) = Sheet::read(&list.sheet)?;
-    let (answers, ledger) = ledger::run(
-        sheet,
-        list.places,
-        &list.groups,
-        &list.text,
-        Checks::Once,
+/// Prints what was seen of days, lists and long lists; tells whether each
+/// number was seen often enough.
+fn report(seen: &[Seen; 3]) -> bool {
+    let line = |name: &str, of: &dyn Fn(&Seen) -> u64| {
+        let [days, lists, long] = [of(&seen[0]), of(&seen[1]), of(&seen[2])];
+        println!("{name:<12} {days:>10} {lists:>10} {long:>10}");
+        days + lists + long
+    };
+    println!(
+        "{:<12} {:>10} {:>10} {:>10}",
+        "", "days", "lists", "long lists"
     );
-    let replies = list.groups.iter().zip(&answers);
-    Ok(Left {
-        replies: replies.map(|(group, answer)| reply(group, answer)).collect(),
-        commitments: *ledger.commitments(),
-        marks: std::array::from_fn(|h| u64::from(ledger.record(h).is_some())),
-        energies: std::array::from_fn(|h| ledger.result(h).energies),
-        amounts: std::array::from_fn(|h| ledger.result(h).amounts),
-        count: ledger.postings().len() as u64,
-        postings: Vec::new(),
+    line("cases agree", &|seen| seen.cases);
+    line("accepted", &|seen| seen.accepted);
+    let mut numbers = REACHED.to_vec();
+    let others = seen.iter().flat_map(|seen| seen.refused.keys());
+    numbers.extend(others.filter(|number| !REACHED.contains(number)));
+    let mut few = Vec::new();
+    for number in numbers {
+        if line(&format!("refused {number}"), &|seen| seen.times(number)) < ENOUGH {
+            few.push(number);
+        }
+    }
+    if few.is_empty() {
+        println!("each number was seen {ENOUGH} times or more");
+    } else {
+        println!("seen fewer than {ENOUGH} times: {few:?}");
+    }
+    few.is_empty()
+}
+
+// ---- cases
+
+/// A kind of case, made from a generator alone.
+struct Kind {
+    name: &'static str,
+    /// Case n has the generator of number 4 n and this.
+    number: u64,
+    /// Whether product and model agree; what they come to is counted.
+    agree: fn(&mut Random, &mut Worker) -> bool,
+    /// What differs, on the smallest input found.
+    explain: fn(&mut Random) -> String,
+}
+
+/// What a thread counts, and the slices that it keeps from case to case.
+struct Worker {
+    seen: Seen,
+    out: Vec<u8>,
+    by_model: Written,
+    by_product: Written,
+}
+
+impl Worker {
+    fn new() -> Worker {
+        Worker {
+            seen: Seen::default(),
+            out: vec![0; product::STATEMENT],
+            by_model: Written::default(),
+            by_product: Written::default(),
+        }
+    }
+}
+
+impl Kind {
+    /// Runs the cases 0 to `count` − 1, up to the first difference. Threads
+    /// take the cases in order and finish what they took, so the lowest case
+    /// that differs is the first.
+    fn every_case(&self, seed: u64, count: u64, threads: u64) -> Result<Seen, String> {
+        let next = AtomicU64::new(0);
+        let lowest = AtomicU64::new(u64::MAX);
+        let random = |case: u64| Random::for_case(seed, 4 * case + self.number);
+        let work = || {
+            let mut worker = Worker::new();
+            while lowest.load(Relaxed) == u64::MAX {
+                let case = next.fetch_add(1, Relaxed);
+                if case >= count {
+                    break;
+                }
+                if case > 0 && case.is_multiple_of(100_000) {
+                    println!("{}: {case}", self.name);
+                }
+                if !(self.agree)(&mut random(case), &mut worker) {
+                    lowest.fetch_min(case, Relaxed);
+                }
+                worker.seen.cases += 1;
+            }
+            worker.seen
+        };
+        let mut all = Seen::default();
+        for seen in on_threads(threads.max(1), work) {
+            all.add(seen);
+        }
+        match lowest.into_inner() {
+            u64::MAX => Ok(all),
+            case => {
+                let name = self.name;
+                println!("seed {seed}, {name}, case {case} differs; it is made smaller");
+                let explained = on_threads(1, || (self.explain)(&mut random(case)));
+                Err(explained.concat())
+            }
+        }
+    }
+}
+
+/// The same work on each of some threads.
+fn on_threads<T: Send>(threads: u64, work: impl Fn() -> T + Sync) -> Vec<T> {
+    std::thread::scope(|scope| {
+        let start = |_| {
+            let thread = std::thread::Builder::new().stack_size(STACK);
+            thread.spawn_scoped(scope, &work).expect("a thread starts")
+        };
+        let threads: Vec<_> = (0..threads).map(start).collect();
+        let end = threads.into_iter().map(|thread| thread.join());
+        end.map(|done| done.expect("a thread ends")).collect()
     })
 }
 
-/// An answer of the model in the product's numbers.
-fn reply(group: &Group, answer: &Answer) -> Reply {
-    match *answer {
-        Answer::Accepted | Answer::Sum(_) => Reply::default(),
-        Answer::Posted { postings, place } => Reply {
-            postings: postings as u64,
-            place: place.unwrap_or(0) as u64,
-            ..Reply::default()
-        },
-        Answer::Refused(refusal) => Reply {
-            number: u64::from(refusal.number),
-            line: u64::from(refusal.line),
-            postings: 0,
-            // A refused record leaves the text place at its start.
-            place: match group.kind {
-                4 | 5 => group.start,
-                _ => 0,
-            },
-        },
-    }
+// ---- days
+
+/// A byte that no statement has.
+const UNWRITTEN: u8 = 0xA5;
+
+/// A day, and the room for its statement: too little in some cases.
+fn a_day(random: &mut Random) -> (Vec<u8>, usize) {
+    let text = generate::day(random);
+    let room = match random.below(16) {
+        0 => random.below(400) as usize,
+        _ => product::STATEMENT,
+    };
+    (text, room)
 }
 
-/// A list that differs, made smaller and written out.
-fn smallest(mut list: CallList, product: &mut Calls) -> String {
-    let mut differs = |list: &CallList| product_run(product, list) != model_run(list);
-    list.groups = shrink::shrink_list(list.groups.clone(), |groups| {
-        differs(&CallList {
-            groups: groups.to_vec(),
-            ..list.clone()
-        })
+fn day_agrees(random: &mut Random, worker: &mut Worker) -> bool {
+    let (text, room) = a_day(random);
+    let outcome = statement::carry_out(&text, Checks::Once);
+    worker.seen.count(match &outcome {
+        Ok(_) => 0,
+        Err(refusal) => u64::from(refusal.number),
     });
-    list.sheet = shrink::shrink_text(&list.sheet.clone(), |sheet| {
-        differs(&CallList {
-            sheet: sheet.to_vec(),
-            ..list.clone()
-        })
-    });
-    let by_model = model_run(&list);
-    let by_product = product_run(product, &list);
-    let mut out = format!("{} places, sheet:\n{}", list.places, show(&list.sheet));
-    for group in &list.groups {
-        out += &format!("{group:?}\n");
-        if group.kind == 4 || group.kind == 5 {
-            let begin = (group.begin as usize).min(list.text.len());
-            let end = (group.end as usize).clamp(begin, list.text.len());
-            out += &show(&list.text[begin..end]);
-        }
-    }
-    match (by_model, by_product) {
-        (Ok(model), Ok(product)) => out + &differences(&model, &product),
-        (model, product) => {
-            let refusal = |result: Result<Left, Refusal>| result.err();
-            out + &format!(
-                "the sheet: model {:?}, product {:?}\n",
-                refusal(model),
-                refusal(product)
-            )
-        }
-    }
+    let printed = statement::print_outcome(&outcome);
+    product_prints(&text, &printed, &mut worker.out[..room])
 }
+
+/// Whether the product writes what is printed as far as there is room, and
+/// nothing after it.
+fn product_prints(text: &[u8], printed: &[u8], out: &mut [u8]) -> bool {
+    out.fill(UNWRITTEN);
+    let length = product::statement(text, out).len();
+    let (written, rest) = out.split_at(length);
+    written == &printed[..printed.len().min(out.len())]
+        && rest.iter().all(|&byte| byte == UNWRITTEN)
+}
+
+fn explain_day(random: &mut Random) -> String {
+    let (text, mut room) = a_day(random);
+    let differs =
+        |text: &[u8], room| !product_prints(text, &statement::print(text), &mut vec![0; room]);
+    if differs(&text, product::STATEMENT) {
+        room = product::STATEMENT;
+    }
+    let start = Instant::now();
+    let text = shrink::shrink_day(&text, |text| {
+        start.elapsed() < SHRINKING && differs(text, room)
+    });
+    let model = show(&statement::print(&text));
+    let product = show(product::statement(&text, &mut vec![0; room]));
+    let text = show(&text);
+    format!("room for {room} bytes, day:\n{text}model:\n{model}product:\n{product}")
+}
+
+// ---- lists of calls
+
+/// A list of calls, and lengths of the slices: too short or too long in some
+/// cases, otherwise as long as needed.
+type List = (CallList, Option<Lengths>);
+
+fn a_list(random: &mut Random, make: fn(&mut Random) -> CallList) -> List {
+    let list = make(random);
+    if !random.one_in(10) {
+        return (list, None);
+    }
+    let mut other = |length: usize| match random.below(3) {
+        0 => length,
+        1 => length + random.below(9) as usize,
+        _ => random.below(length as u64 + 1) as usize,
+    };
+    let exact = Lengths::of(list.groups.len(), list.places as u64);
+    let lengths = Lengths {
+        answers: other(exact.answers),
+        held: other(exact.held),
+        amounts: other(exact.amounts),
+        postings: other(exact.postings),
+    };
+    (list, Some(lengths))
+}
+
+fn list_agrees(list: &List, worker: &mut Worker) -> bool {
+    let agrees = run_both(list, worker);
+    let written = &worker.by_model;
+    match written.number {
+        0 => {
+            let carried_out = list.0.groups.len();
+            for answer in written.answers.chunks_exact(ANSWER).take(carried_out) {
+                worker.seen.count(answer[0]);
+            }
+        }
+        number => worker.seen.count(number),
+    }
+    agrees
+}
+
+/// Lets model and product write into slices with the same contents.
+fn run_both((list, lengths): &List, worker: &mut Worker) -> bool {
+    let calls = numbers::numbers(&list.groups);
+    let given = Given {
+        sheet: &list.sheet,
+        places: list.places as u64,
+        calls: &calls,
+        text: &list.text,
+    };
+    let lengths = lengths.unwrap_or(Lengths::of(list.groups.len(), given.places));
+    for written in [&mut worker.by_model, &mut worker.by_product] {
+        written.fit(lengths);
+        written.fill();
+    }
+    numbers::calls(&given, Checks::Once, &mut worker.by_model);
+    product::calls(&given, &mut worker.by_product);
+    worker.by_model == worker.by_product
+}
+
+fn explain_list((list, mut lengths): List) -> String {
+    let worker = &mut Worker::new();
+    if !run_both(&(list.clone(), None), worker) {
+        lengths = None;
+    }
+    let start = Instant::now();
+    let late = || start.elapsed() > SHRINKING;
+    let small = shrink::shrink_calls(&list, late, |list| {
+        !late() && !run_both(&(list.clone(), lengths), worker)
+    });
+    let shown = show_list(&small, lengths);
+    run_both(&(small, lengths), worker);
+    shown + &differences(&worker.by_model, &worker.by_product)
+}
+
+// ---- differences
 
 fn show(text: &[u8]) -> String {
     let mut out = String::from_utf8_lossy(text).into_owned();
@@ -181,34 +373,89 @@ fn show(text: &[u8]) -> String {
     out
 }
 
-/// Each part that differs, a line for it.
-fn differences(model: &Left, product: &Left) -> String {
-    let mut out = String::new();
-    for (i, (m, p)) in model.replies.iter().zip(&product.replies).enumerate() {
-        if m != p {
-            out += &format!("call {}: model {m:?}, product {p:?}\n", i + 1);
-        }
+fn show_list(list: &CallList, lengths: Option<Lengths>) -> String {
+    let mut out = format!("{} places, sheet:\n{}", list.places, show(&list.sheet));
+    if let Some(lengths) = lengths {
+        out = format!("{lengths:?}\n{out}");
     }
-    if model.count != product.count {
-        out += &format!("count: model {}, product {}\n", model.count, product.count);
-    }
-    for (i, (m, p)) in model.postings.iter().zip(&product.postings).enumerate() {
-        if m != p {
-            out += &format!("posting {}: model {m:?}, product {p:?}\n", i + 1);
-        }
-    }
-    for h in 0..HOURS {
-        let hour = h + 1;
-        let mut part = |name: &str, model: String, product: String| {
-            if model != product {
-                out += &format!("hour {hour} {name}: model {model}, product {product}\n");
-            }
+    let mut shown: Vec<&[u8]> = Vec::new();
+    for (i, group) in list.groups.iter().enumerate() {
+        out += &format!("call {}: {group:?}\n", i + 1);
+        let record = match group.kind {
+            4 | 5 => group.part(&list.text),
+            _ => b"",
         };
-        let words = |value: &dyn std::fmt::Debug| format!("{value:?}");
-        part("commitments", words(&model.commitments[h]), words(&product.commitments[h]));
-        part("mark", words(&model.marks[h]), words(&product.marks[h]));
-        part("energies", words(&model.energies[h]), words(&product.energies[h]));
-        part("amounts", words(&model.amounts[h]), words(&product.amounts[h]));
+        // A record that many calls name is shown once.
+        match shown.iter().position(|other| *other == record) {
+            _ if record.is_empty() => {}
+            Some(at) => out += &format!("record of call {}\n", at + 1),
+            None => out += &show(record),
+        }
+        shown.push(record);
     }
     out
+}
+
+/// The first places of each slice that differ, a line for each.
+fn differences(model: &Written, product: &Written) -> String {
+    const FIRST: usize = 8;
+    let mut lines = Vec::new();
+    let mut part = |name: String, model: &dyn std::fmt::Debug, product: &dyn std::fmt::Debug| {
+        let (model, product) = (format!("{model:?}"), format!("{product:?}"));
+        if model != product {
+            lines.push(format!("{name}: model {model}, product {product}\n"));
+        }
+    };
+    part("sheet's number".into(), &model.number, &product.number);
+    part("sheet's line".into(), &model.line, &product.line);
+    part("count".into(), &model.count, &product.count);
+    let groups = |numbers: &[u64]| {
+        numbers
+            .chunks(ANSWER)
+            .map(<[u64]>::to_vec)
+            .collect::<Vec<_>>()
+    };
+    let pairs = groups(&model.answers)
+        .into_iter()
+        .zip(groups(&product.answers));
+    for (i, (m, p)) in pairs.enumerate().filter(|(_, (m, p))| m != p).take(FIRST) {
+        part(format!("answer {}", i + 1), &m, &p);
+    }
+    let pairs = model.held.iter().zip(&product.held);
+    for (at, (m, p)) in pairs.enumerate().filter(|(_, (m, p))| m != p).take(FIRST) {
+        part(held_name(at), m, p);
+    }
+    let pairs = model.amounts.iter().zip(&product.amounts);
+    for (at, (m, p)) in pairs.enumerate().filter(|(_, (m, p))| m != p).take(FIRST) {
+        let place = at / ITEMS;
+        part(
+            format!("amount, {}, item {}", entry(place), at % ITEMS + 1),
+            m,
+            p,
+        );
+    }
+    let pairs = model
+        .postings
+        .chunks(POSTING)
+        .zip(product.postings.chunks(POSTING));
+    for (at, (m, p)) in pairs.enumerate().filter(|(_, (m, p))| m != p).take(FIRST) {
+        part(format!("journal place {}", at + 1), &m, &p);
+    }
+    lines.concat()
+}
+
+fn entry(place: usize) -> String {
+    format!("hour {} unit {}", place / UNITS + 1, place % UNITS + 1)
+}
+
+fn held_name(at: usize) -> String {
+    let marks = HOURS * UNITS;
+    let energies = marks + HOURS;
+    if at < marks {
+        format!("commitment, {}", entry(at))
+    } else if at < energies {
+        format!("mark, hour {}", at - marks + 1)
+    } else {
+        format!("energy, {}", entry(at - energies))
+    }
 }
