@@ -17,7 +17,6 @@ use Rattle.sheet.specs.Ranges.{sheetHolds}
 use Rattle.state.specs.declared.Book.{Book}
 use Rattle.state.specs.Book.{noKwh, settledMark}
 use Rattle.state.specs.Ranges.{limitAt}
-use Rattle.book.specs.declared.Refusal.{Refusal}
 use Rattle.book.specs.declared.Refusal.the-variants.{SheetRange}
 use Rattle.book.specs.declared.Verdict.{Verdict}
 use Rattle.book.specs.declared.Verdict.the-variants.{Accepted, Refused}

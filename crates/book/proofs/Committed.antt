@@ -2,12 +2,12 @@
 -- and where they do not, the rest is not looked at.
 -- Assumes nothing.
 use mathlib.Core.Path.{_≡_, refl, ap, ap₂, sym, _∙_, subst}
-use mathlib.Core.Bool.{Bool, true, false, cond, not, _&&_, _||_}
-use mathlib.Core.List.{List, [], _∷_}
-use Prim.Native.Nat.{ℕ, _+_, _-_, _*_, _/_, _%_, _≤_, _<_}
+use mathlib.Core.Bool.{Bool, true, false, cond, not, _&&_}
+use mathlib.Core.List.{List, _∷_}
+use Prim.Native.Nat.{ℕ, _+_, _-_, _/_, _%_, _≤_, _<_}
 use native.Mathlib.Omega.{arith}
 use borrow.Author.Tests.{ltb-false, le-ltb, eqb-true, eqb-false, ne-eqb, leb-true, not-false}
-use lib.Dec.{ltb, leb, eqb}
+use lib.Dec.{leb, eqb}
 use lib.ListN.{getD, set}
 use lib.Seq.{set-set}
 use Rattle.finite.proofs.Tests.{and-left, and-right}
@@ -26,9 +26,9 @@ use Rattle.book.specs.declared.Asked.{Asked}
 use Rattle.book.specs.declared.Shift.{Shift}
 use Rattle.book.specs.declared.Request.{Request}
 use Rattle.book.specs.declared.Decision.{Decision}
-use Rattle.book.specs.Calls.{Row, row, verdict, badHour, unknownUnits, isSettled, heldKwh, lastKwh, withHeld, takeTests, releaseTests, moveTests, byVerdict, changedTo, refusedWith, requestRows, acceptedIn, requestDecided}
+use Rattle.book.specs.Calls.{Row, row, verdict, badHour, isSettled, heldKwh, lastKwh, withHeld, takeTests, releaseTests, moveTests, byVerdict, changedTo, refusedWith, requestRows, acceptedIn, requestDecided}
 use Rattle.book.specs.Numbers.{refusalNumber}
-use Rattle.book.specs.Commitments.{hourPlace, entryPlace, targetOf, commitVerdict, leftWith, heldThen, shifted, committedBook, shiftOf, commitmentDecided}
+use Rattle.book.specs.Commitments.{hourPlace, entryPlace, targetOf, commitVerdict, leftWith, heldThen, shiftOf, commitmentDecided}
 use Rattle.book.proofs.Places.{passed}
 use Rattle.book.proofs.Room.{from-known, to-known}
 

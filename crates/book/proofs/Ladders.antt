@@ -1,13 +1,9 @@
 -- The decisions, test by test: each law is one way through the rows of a call.
 -- Assumes nothing.
-use mathlib.Core.Path.{_≡_, refl, ap, sym, _∙_}
-use mathlib.Core.Bool.{Bool, true, false, cond, not, _&&_, _||_}
-use mathlib.Core.List.{List, [], _∷_, _++_}
-use Prim.Native.Nat.{ℕ, _+_, _-_, _≤_, _<_}
-use native.Mathlib.Omega.{arith}
-use borrow.Author.Tests.{ltb-false, eq-eqb, ne-eqb}
-use lib.Dec.{ltb, eqb}
-use Rattle.units.specs.Units.{isMember}
+use mathlib.Core.Path.{_≡_, refl}
+use mathlib.Core.Bool.{Bool, true, false, not}
+use Prim.Native.Nat.{ℕ}
+use lib.Dec.{eqb}
 use Rattle.lines.specs.declared.ReadAnswer.the-variants.{Read, Refused}
 use Rattle.lines.specs.declared.TextRefusal.{TextRefusal}
 use Rattle.sheet.specs.declared.Sheet.{Sheet}
@@ -18,10 +14,9 @@ use Rattle.settlement.specs.Refusals.{readingsHold, proportionsHold}
 use Rattle.state.specs.declared.Book.{Book}
 use Rattle.state.specs.Book.{noResult, openMark}
 use Rattle.book.specs.declared.Refusal.{Refusal}
-use Rattle.book.specs.declared.Refusal.the-variants.{Text, SheetRange, HourRange, UnitUnknown, BookRange, HourSettled, NoAmount, OverOffer, HeldLess, SameUnit, Minutes, Readings, Proportions, HourStands, HourOpen, NoPlaces}
+use Rattle.book.specs.declared.Refusal.the-variants.{Text, SheetRange, HourRange, BookRange, Minutes, Readings, Proportions, HourStands, HourOpen, NoPlaces}
 use Rattle.book.specs.declared.Request.{Request}
-use Rattle.book.specs.declared.Decision.{Decision}
-use Rattle.book.specs.Calls.{verdict, badHour, unknownUnits, isSettled, heldKwh, lastKwh, shortOf, withHeld, refusedWith, changedTo, postedWith, recordedAt, voidDecided, recordDecided, settleDecided, restateDecided, requestRows, requestDecided, acceptedIn, bookFits, decided}
+use Rattle.book.specs.Calls.{verdict, badHour, isSettled, shortOf, refusedWith, postedWith, recordedAt, voidDecided, recordDecided, settleDecided, restateDecided, requestRows, requestDecided, acceptedIn, bookFits, decided}
 
 -- a void
 module _ (s : Sheet) (b : Book) (count start hour places : ℕ) where

@@ -6,8 +6,8 @@ use mathlib.Core.Bool.{Bool, true, false, cond, not, _&&_}
 use mathlib.Core.List.{List, [], _∷_, _++_}
 use Prim.Native.Nat.{ℕ, _+_, _-_, _*_, _≤_, min}
 use native.Mathlib.Omega.{arith}
-use borrow.Author.Tests.{ltb-false, not-true, not-false}
-use lib.Count.{ones, ones-le}
+use borrow.Author.Tests.{ltb-false, not-false}
+use lib.Count.{ones-le}
 use lib.Dec.{eqb}
 use lib.ListN.{length}
 use Rattle.units.specs.Units.{unitCount}
@@ -16,18 +16,17 @@ use Rattle.sheet.specs.Ranges.{sheetHolds}
 use Rattle.sheet.proofs.InRange.{in-range}
 use Rattle.settlement.specs.declared.Amounts.{Amounts}
 use Rattle.state.specs.declared.Book.{Book}
-use Rattle.state.specs.Book.{noResult, openMark, settledMark}
+use Rattle.state.specs.Book.{noResult, openMark}
 use Rattle.state.specs.Ranges.{bookHolds}
 use Rattle.postings.specs.Journal.{countHolds}
 use Rattle.postings.specs.Plan.{planOf}
 use Rattle.postings.proofs.Posted.{plan-length}
-use Rattle.book.specs.declared.Refusal.{Refusal}
 use Rattle.book.specs.declared.Refusal.the-variants.{SheetRange, BookRange, HourStands, HourOpen}
 use Rattle.book.specs.declared.Verdict.{Verdict}
 use Rattle.book.specs.declared.Verdict.the-variants.{Accepted as passes, Refused as fails}
 use Rattle.book.specs.declared.Request.{Request}
 use Rattle.book.specs.declared.Decision.{Decision}
-use Rattle.book.specs.Calls.{Row, row, verdict, badHour, isSettled, heldKwh, shortOf, textRows, takeRows, releaseRows, moveRows, recordRows, voidRows, requestRows, rowsOf, byVerdict, refusedWith, changedTo, postedWith, recordedIn, withHeld, acceptedIn, decided, bookFits}
+use Rattle.book.specs.Calls.{Row, row, verdict, isSettled, heldKwh, shortOf, textRows, takeRows, releaseRows, moveRows, recordRows, voidRows, requestRows, rowsOf, byVerdict, refusedWith, changedTo, postedWith, recordedIn, withHeld, acceptedIn, decided, bookFits}
 
 abbrev FitsIn : ℕ → Decision → Type 0
 FitsIn places d = (d .n ≤ 40) × (d .n ≤ places - d .at) × (d .n ≤ length (d .plan .row))

@@ -4,7 +4,7 @@
 use mathlib.Core.Path.{_≡_, refl, sym, ap, ap₂, _∙_, subst}
 use mathlib.Core.Bool.{Bool, true, false, _&&_}
 use mathlib.Core.List.{List}
-use Prim.Native.Nat.{ℕ, suc, _+_, _/_, _%_, _≤_, _<_}
+use Prim.Native.Nat.{ℕ, suc, _+_, _/_, _%_, _<_}
 use native.Mathlib.Numerals.{add-one}
 use native.Mathlib.Omega.{arith}
 use borrow.Author.Tests.{eqb-true, ne-eqb}
@@ -34,8 +34,8 @@ use Rattle.book.proofs.Carried.{Carried, carried}
 use Rattle.journal.specs.declared.Ran.{Ran}
 use Rattle.journal.specs.declared.Stand.{Stand}
 use Rattle.journal.specs.Journal.{posted, performed}
-use Rattle.journal.specs.Run.{Running, replied, answered, stateOf, performedAt, turned, ranAll}
-use Rattle.journal.specs.Stands.{ranOf, begunWith, listAt, Stands, Commits}
+use Rattle.journal.specs.Run.{Running, replied, answered, stateOf, turned, ranAll}
+use Rattle.journal.specs.Stands.{begunWith, listAt, Stands, Commits}
 use Rattle.journal.proofs.Posted.{posted-paste}
 use Rattle.journal.proofs.Turned.{length-list}
 use Rattle.journal.proofs.Listed.{states}

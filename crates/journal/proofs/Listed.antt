@@ -2,7 +2,6 @@
 -- places, which no later turn writes. So the promise about every list of calls holds of it.
 -- Assumes nothing.
 use mathlib.Core.Path.{_≡_, refl, sym, ap, _∙_, subst}
-use mathlib.Core.Bool.{Bool}
 use mathlib.Core.List.{List, [], _∷_, _++_}
 use Prim.Native.Nat.{ℕ, zero, suc, _+_, _*_, _/_, _≤_, _<_}
 use native.Mathlib.Omega.{arith}
@@ -16,7 +15,7 @@ use Rattle.postings.specs.declared.Posting.{Posting}
 use Rattle.book.specs.declared.Answer.{Answer}
 use Rattle.book.specs.declared.Answer.the-variants.{Accepted, Posted, Refused}
 use Rattle.book.specs.declared.Outcome.{Outcome}
-use Rattle.book.specs.Ledger.{Call, Reply}
+use Rattle.book.specs.Ledger.{Reply}
 use Rattle.book.specs.Numbers.{replyOf, numberOf, lineOf, postedOf}
 use Rattle.book.specs.Requests.{callAt, requestAt, callsIn}
 use Rattle.book.specs.Calls.{State, Ran, carriedOut, requestOf, ranFrom, begun}

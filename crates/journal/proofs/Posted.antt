@@ -4,7 +4,7 @@
 use mathlib.Core.Path.{_≡_, refl, _∙_, ap, sym}
 use mathlib.Core.Bool.{Bool, true, false}
 use mathlib.Core.List.{List}
-use Prim.Native.Nat.{ℕ, zero, suc, _+_, _-_, _≤_, _<_}
+use Prim.Native.Nat.{ℕ, zero, suc, _+_, _-_, _≤_}
 use native.Mathlib.Omega.{arith}
 use lib.IntN.{ℤ}
 use lib.ListN.{length, set, length-set, take}
@@ -23,7 +23,7 @@ use Rattle.postings.proofs.Scan.{scan-good, scan-sum}
 use Rattle.book.specs.declared.Request.{Request}
 use Rattle.book.specs.declared.Decision.{Decision}
 use Rattle.book.specs.declared.Verdict.the-variants.{Accepted}
-use Rattle.book.specs.Calls.{bookFits, decided, decidedOn, journalAfter, outcomeOf}
+use Rattle.book.specs.Calls.{bookFits, decided, journalAfter, outcomeOf}
 use Rattle.book.specs.Total.{totalBy, itemOf, totalDecided, totalOn}
 use Rattle.book.proofs.Places.{decided-fits, decided-rows, fits-by, decided-same}
 use Rattle.journal.specs.Journal.{scannedIn, posted, Performed, performed}

@@ -1,13 +1,11 @@
 -- 9 by what is known of the sheet; 12 is known not to hold; then the rows of the call.
 -- Assumes nothing.
-use mathlib.Core.Path.{_≡_, sym, _∙_}
+use mathlib.Core.Path.{sym, _∙_}
 use mathlib.Core.Bool.{true}
 use Rattle.finite.proofs.Tests.{and-left, and-right}
 use Rattle.state.specs.Ranges.{bookHolds}
 use Rattle.postings.specs.Journal.{countHolds}
 use Rattle.postings.proofs.Counted.{count-most}
-use Rattle.book.specs.Sound.{Known, WellRead, Sound}
-use Rattle.book.specs.Calls.{bookFits}
 use Rattle.book.proofs.Ladders.{decided-9, decided-on}
 use borrow.Author.Needs.{needs}
 use Rattle.book.proofs.decide_known.Statement.{statement}

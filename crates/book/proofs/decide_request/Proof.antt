@@ -1,12 +1,9 @@
 -- Each return is the kind that was asked for.
 -- Assumes nothing.
-use mathlib.Core.Path.{_≡_, sym, _∙_}
-use mathlib.Core.Bool.{Bool, true, false, _&&_}
-use Prim.Native.Nat.{ℕ, _≤_}
-use native.Mathlib.Omega.{arith}
+use mathlib.Core.Path.{sym, _∙_}
 use borrow.Author.Tests.{eq-eqb, ne-eqb, leb-true}
 use lib.Dec.{leb}
-use Rattle.finite.proofs.Tests.{and-left, and-right, and-both}
+use Rattle.finite.proofs.Tests.{and-left, and-right}
 use Rattle.book.proofs.Committed.{commitment-is, kind-other}
 use Rattle.book.proofs.Ladders.{kind-settle, kind-restate, kind-void}
 use borrow.Author.Needs.{needs}

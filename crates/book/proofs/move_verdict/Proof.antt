@@ -1,7 +1,7 @@
 -- Each return is one way through the rows of the call.
 -- Assumes nothing.
 use mathlib.Core.Path.{sym, _∙_}
-use borrow.Author.Tests.{not-true, not-false, eq-eqb, ne-eqb, lt-ltb, le-ltb}
+use borrow.Author.Tests.{eq-eqb, ne-eqb, lt-ltb, le-ltb}
 use Rattle.book.specs.Calls.{verdict}
 use borrow.Author.Needs.{needs}
 use Rattle.book.proofs.move_verdict.Statement.{statement}

@@ -1,7 +1,7 @@
 -- After h turns the entries of the first h hours are stored.
 -- Assumes nothing.
 use mathlib.Core.Path.{_≡_, _∙_, subst}
-use Prim.Native.Nat.{ℕ, _-_, _+_, _≤_, _<_}
+use Prim.Native.Nat.{ℕ, _-_, _≤_, _<_}
 use native.Mathlib.Omega.{arith}
 use lib.ListN.{length-set}
 use Rattle.book.proofs.Limits.{Limited, limited-none, limited-next, limited-all}

@@ -1,10 +1,9 @@
 -- The takes, releases and moves leave the list of places as it is; the call after them posts what its decision says.
 -- Assumes nothing.
-use mathlib.Core.Path.{_≡_, ap, sym, _∙_, subst}
+use mathlib.Core.Path.{ap, sym, _∙_, subst}
 use mathlib.Core.Bool.{true}
 use Prim.Native.Nat.{ℕ, _-_, _≤_}
 use native.Mathlib.Omega.{arith}
-use lib.ListN.{length}
 use Rattle.book.specs.declared.Request.{Request}
 use Rattle.book.specs.declared.Decision.{Decision}
 use Rattle.book.specs.Sound.{Known, WellRead}
