@@ -318,15 +318,16 @@ pub fn read_sheet(text: &[u8], start: u64) -> SheetRead
 pub fn monthly_of(sheet: Sheet) -> [GrossKwh; 8]
     ensures { λ r. ⌜ r ≡ monthlyOf sheet ⌝ }
 {
-    let mut monthly = [GrossKwh(0); 8];
-    let mut k: usize = 0;
-    while k < 8 {
-        let u = sheet.unit[k];
-        let power = u.monthly;
-        monthly[k] = power;
-        k += 1;
-    }
-    monthly
+    [
+        GrossKwh(sheet.unit[0].monthly.0),
+        GrossKwh(sheet.unit[1].monthly.0),
+        GrossKwh(sheet.unit[2].monthly.0),
+        GrossKwh(sheet.unit[3].monthly.0),
+        GrossKwh(sheet.unit[4].monthly.0),
+        GrossKwh(sheet.unit[5].monthly.0),
+        GrossKwh(sheet.unit[6].monthly.0),
+        GrossKwh(sheet.unit[7].monthly.0),
+    ]
 }
 
 // Whether a unit's values keep their ranges and orders.
