@@ -84,13 +84,13 @@ alwaysRows s b count places posted =
     row SheetRange (not (sheetHolds s)) ∷ row BookRange (not (bookHolds s b && (countHolds count places && posted))) ∷ []
 
 -- take: 10 11 20 21 22, by whether the hour is settled, the unit's commitment and its last offer quantity
-abbrev pub takeTests : (units hour unit kwh : ℕ) → (settled : Bool) → (held last : ℕ) → List Row
-takeTests units hour unit kwh settled held last =
+abbrev pub takeTests : (units hour unit kwh : ℕ) → (settled : Bool) → (held limit : ℕ) → List Row
+takeTests units hour unit kwh settled held limit =
     row HourRange (badHour hour)
     ∷ row UnitUnknown (not (isMember units unit))
     ∷ row HourSettled settled
     ∷ row NoAmount (eqb kwh 0)
-    ∷ row OverOffer (ltb last (held + kwh))
+    ∷ row OverOffer (ltb limit (held + kwh))
     ∷ []
 
 abbrev pub takeRows : Sheet → Book → (hour unit kwh : ℕ) → List Row
