@@ -116,17 +116,18 @@ module _ (sheet : Sheet) (calls answers : List ℕ) (st : Stand) (commits : (leb
       let k = st .next in
       let r = commit-ran sheet calls text journal first k commits in
       let w = commit-answers sheet calls text journal first k commits in
-      let l = commit-list sheet calls text journal first k commits in
-      (record {
-        ran-is =
-            ap (λ (n : ℕ). ranAll sheet calls text (begunWith journal first) n .ran) (add-one k)
-            ∙ (r ∙ ap (λ (x : Ran). record { book = bookWith (x .book) asked (shiftIn sheet (x .book) asked); count = x .count }) (s .ran-is));
-        answers-are =
-            ap (λ (n : ℕ). ranAll sheet calls text (begunWith journal first) n .answers) (add-one k)
-            ∙ (w ∙ ap₂ (λ (x : Ran) (y : List ℕ). replied y k (shiftIn sheet (x .book) asked .number) 0 0 0) (s .ran-is) (s .answers-are));
-        known = s .known;
-      },
-      ap (λ (n : ℕ). ranAll sheet calls text (begunWith journal first) n .list) (add-one k) ∙ l)
+      let l = commit-list sheet calls text journal first k commits in (
+        record {
+          ran-is =
+              ap (λ (n : ℕ). ranAll sheet calls text (begunWith journal first) n .ran) (add-one k)
+              ∙ (r ∙ ap (λ (x : Ran). record { book = bookWith (x .book) asked (shiftIn sheet (x .book) asked); count = x .count }) (s .ran-is));
+          answers-are =
+              ap (λ (n : ℕ). ranAll sheet calls text (begunWith journal first) n .answers) (add-one k)
+              ∙ (w ∙ ap₂ (λ (x : Ran) (y : List ℕ). replied y k (shiftIn sheet (x .book) asked .number) 0 0 0) (s .ran-is) (s .answers-are));
+          known = s .known;
+        },
+        ap (λ (n : ℕ). ranAll sheet calls text (begunWith journal first) n .list) (add-one k) ∙ l,
+      )
 
   -- the same as the code has it: places, limit and shift are results of calls
   module _ (limits : List HubKwh) (limits-are : (j : ℕ) → j < 192 → getD limits j noKwh ≡ limitAt sheet (j / 8) (j % 8))
@@ -164,13 +165,14 @@ module _ (sheet : Sheet) (calls answers : List ℕ) (st : Stand) (commits : (leb
     pub committed-next : Commits sheet calls answers answers′ st
         (record { book = record { commitment = set (set (st .book .commitment) from (r .from)) target (r .to); mark = st .book .mark; energy = st .book .energy; amounts = st .book .amounts }; count = st .count; next = st .next + 1; holds = st .holds })
     committed-next text journal first s =
-        let n = commit-next text journal first s in
-        (record {
-          ran-is = n .0 .ran-is ∙ book-at (s .known);
-          answers-are = n .0 .answers-are ∙ sym (answers-are ∙ ap (λ (z : Shift). replied answers (st .next) (z .number) 0 0 0) (shift-at (s .known)));
-          known = s .known;
-        },
-        n .1)
+        let n = commit-next text journal first s in (
+          record {
+            ran-is = n .0 .ran-is ∙ book-at (s .known);
+            answers-are = n .0 .answers-are ∙ sym (answers-are ∙ ap (λ (z : Shift). replied answers (st .next) (z .number) 0 0 0) (shift-at (s .known)));
+            known = s .known;
+          },
+          n .1,
+        )
 
 -- a release gives and gets at one place
 pub one-place : (l : List HubKwh) (x : Asked) (from t target : ℕ) → from ≡ entryPlace (x .hour) (x .unit) → t ≡ targetOf (x .kind) (x .unit) (x .to) → target ≡ entryPlace (x .hour) t

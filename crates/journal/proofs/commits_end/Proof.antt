@@ -51,11 +51,12 @@ loop-less c = search needs
 loop-again : tie.Need-loop-again Inv-loop μ-loop
 loop-again c =
     let l = c .before .before .before .before .loop in
-    let a = c .before .before .before .before .before .before .args in
-    (omega (arith, l .inv .0),
-    (λ h. omega arith),
-    one-more (a .calls .now) (a .from) (l .i) (l .inv .2)
-    (ap (λ (x : Asked). leb 1 (x .kind) && leb (x .kind) 3) (sym (c .before .before .asked-at .ensures)) ∙ (sym (c .before .commits .ensures) ∙ not-false (c .before .commits .result) (c .if1 .left))))
+    let a = c .before .before .before .before .before .before .args in (
+      omega (arith, l .inv .0),
+      (λ h. omega arith),
+      one-more (a .calls .now) (a .from) (l .i) (l .inv .2)
+          (ap (λ (x : Asked). leb 1 (x .kind) && leb (x .kind) 3) (sym (c .before .before .asked-at .ensures)) ∙ (sym (c .before .commits .ensures) ∙ not-false (c .before .commits .result) (c .if1 .left))),
+    )
 
 returns-2 : tie.Need-returns-2 Inv-loop μ-loop
 returns-2 c = let l = c .before .loop in ((λ h. (l .inv .0, l .inv .1 h)), l .inv .2)

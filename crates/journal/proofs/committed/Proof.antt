@@ -101,15 +101,16 @@ loop-again c =
     let a = c .before .before .before .before .before .before .before .before .before .before .before .before .before .before .before .before .before .before .before .before .before .before .args in
     let l = c .before .before .before .before .before .before .before .before .before .before .before .before .before .before .before .before .before .loop in
     let i = l .i in
-    let st : Stand = record { book = l .book; count = a .stand .count; next = i; holds = a .stand .holds } in
-    (omega (arith, l .inv .0),
-    omega arith,
-    l .inv .2,
-    λ sheet u f. commits-then sheet (a .calls .now) (a .answers .now) _ _ (a .stand) st _ (l .inv .3 sheet u f)
-    (committed-next sheet (a .calls .now) _ st (l .inv .2 i (l .inv .0) (omega arith)) (c .before .before .before .before .before .before .before .before .before .before .before .before .before .before .before .before .before .before .before .limits-of .result) f (a .sheet .units) u (c .before .before .before .before .before .before .before .before .before .before .before .before .before .before .before .asked-at .result) (c .before .before .before .before .before .before .before .before .before .before .before .before .before .before .before .asked-at .ensures)
-    _ _ _ _ (c .before .before .before .before .before .before .before .before .before .before .before .before .before .before .hour-place .ensures .0) (c .before .before .before .before .before .before .before .before .before .before .before .before .before .entry-place .ensures .0) (c .before .before .before .before .before .before .before .before .before .before .before .before .target-of .ensures) (c .before .before .before .before .before .before .before .before .before .before .before .entry-place2 .ensures .0) (c .before .before .before .before .before .before .before .before .before .before .before .entry-place2 .ensures .1)
-    (c .before .before .before .before .before .before .shift-of .result) (c .before .before .before .before .before .before .shift-of .ensures) _ (c .before .before .reply .ensures)),
-    c .before .before .reply .kept .0 ∙ l .inv .4)
+    let st : Stand = record { book = l .book; count = a .stand .count; next = i; holds = a .stand .holds } in (
+      omega (arith, l .inv .0),
+      omega arith,
+      l .inv .2,
+      λ sheet u f. commits-then sheet (a .calls .now) (a .answers .now) _ _ (a .stand) st _ (l .inv .3 sheet u f)
+          (committed-next sheet (a .calls .now) _ st (l .inv .2 i (l .inv .0) (omega arith)) (c .before .before .before .before .before .before .before .before .before .before .before .before .before .before .before .before .before .before .before .limits-of .result) f (a .sheet .units) u (c .before .before .before .before .before .before .before .before .before .before .before .before .before .before .before .asked-at .result) (c .before .before .before .before .before .before .before .before .before .before .before .before .before .before .before .asked-at .ensures)
+          _ _ _ _ (c .before .before .before .before .before .before .before .before .before .before .before .before .before .before .hour-place .ensures .0) (c .before .before .before .before .before .before .before .before .before .before .before .before .before .entry-place .ensures .0) (c .before .before .before .before .before .before .before .before .before .before .before .before .target-of .ensures) (c .before .before .before .before .before .before .before .before .before .before .before .entry-place2 .ensures .0) (c .before .before .before .before .before .before .before .before .before .before .before .entry-place2 .ensures .1)
+          (c .before .before .before .before .before .before .shift-of .result) (c .before .before .before .before .before .before .shift-of .ensures) _ (c .before .before .reply .ensures)),
+      c .before .before .reply .kept .0 ∙ l .inv .4,
+    )
 
 same-length : tie.Need-same-length Inv-loop μ-loop
 same-length c = c .before .loop .inv .4

@@ -31,10 +31,13 @@ unfolding posted
 returns c =
     let a = c .before .before .before .before .before .before .before .before .before .args in
     let p = c .before .before .before .before .before .before .before .before .before .pre in
-    let k = c .before .before .before .before .commitments .ensures in
-    ((λ journal first long s. k .0 (a .text .now) journal first s),
-    ((omega arith, omega arith),
-    (omega (arith, p .more, c .before .if1 .taken), k .1 .1)))
+    let k = c .before .before .before .before .commitments .ensures in (
+      (λ journal first long s. k .0 (a .text .now) journal first s),
+      (
+        (omega arith, omega arith),
+        (omega (arith, p .more, c .before .if1 .taken), k .1 .1),
+      ),
+    )
 
 request-at-requires : tie.Need-request-at-requires
 request-at-requires c κs = search needs
@@ -44,9 +47,10 @@ decide-known-requires c κs =
     let a = c .before .before .before .before .before .before .before .before .before .before .args in
     let p = c .before .before .before .before .before .before .before .before .before .before .pre in
     let b = c .before .before .before .before .before .commitments .result in
-    let s = c .before .before .before .before .before .commitments .ensures .0 (a .text .now) (p .journal) (p .first) (p .stands) .0 in
-    (subst (λ (n : ℕ). Known (a .sheet) (b .holds) (b .book) (b .count) n) (p .long) (known-at (a .sheet) (a .calls .now) (a .text .now) (p .journal) (p .first) _ b s),
-    subst (λ (q : Request). WellRead (a .sheet) q) (sym (c .request-at .ensures)) (at-well (a .sheet) (a .calls .now) (a .text .now) (b .next)))
+    let s = c .before .before .before .before .before .commitments .ensures .0 (a .text .now) (p .journal) (p .first) (p .stands) .0 in (
+      subst (λ (n : ℕ). Known (a .sheet) (b .holds) (b .book) (b .count) n) (p .long) (known-at (a .sheet) (a .calls .now) (a .text .now) (p .journal) (p .first) _ b s),
+      subst (λ (q : Request). WellRead (a .sheet) q) (sym (c .request-at .ensures)) (at-well (a .sheet) (a .calls .now) (a .text .now) (b .next)),
+    )
 
 number-of-requires : tie.Need-number-of-requires
 number-of-requires c κs = search needs
@@ -75,16 +79,19 @@ returns-2 c =
     let d = c .before .before .before .before .before .before .before .before .before .decide-known .result in
     let asked = ap (λ (q : Request). decided (a .sheet) (b .book) q (b .count) (a .places) true) (c .before .before .before .before .before .before .before .before .before .before .request-at .ensures) in
     let is = c .before .before .before .before .before .before .before .before .before .decide-known .ensures ∙ asked in
-    let fits = decided-fits (a .sheet) (b .book) (requestAt (a .sheet) (a .calls .now) (a .text .now) (b .next)) (b .count) (a .places) true in
-    ((λ journal first long s.
-    let t = k .0 (a .text .now) journal first s in
-    let n =
-    call-next (a .sheet) (a .calls .now) (a .text .now) journal first _ b (t .0) d
-    (is ∙ ap (λ (m : ℕ). decided (a .sheet) (b .book) (requestAt (a .sheet) (a .calls .now) (a .text .now) (b .next)) (b .count) m true) (sym long))
-    _ _ _ (c .before .before .before .before .before .before .before .number-of .ensures) (c .before .before .before .before .before .before .line-of .ensures) (c .before .before .before .before .before .posted-of .ensures) _ (c .before .before .before .before .reply .ensures) in
-    (n .0, n .1 ∙ ap (λ l. posted l (d .at) (d .plan) (d .n)) (t .1))),
-    (subst (λ (x : Decision). (x .n ≤ 40) × (x .n ≤ a .places - x .at)) (sym is) fits,
-    (omega (arith, k .1 .0), omega (arith, c .before .before .before .before .before .before .before .before .before .before .before .before .if1 .left))))
+    let fits = decided-fits (a .sheet) (b .book) (requestAt (a .sheet) (a .calls .now) (a .text .now) (b .next)) (b .count) (a .places) true in (
+      (λ journal first long s.
+          let t = k .0 (a .text .now) journal first s in
+          let n =
+          call-next (a .sheet) (a .calls .now) (a .text .now) journal first _ b (t .0) d
+          (is ∙ ap (λ (m : ℕ). decided (a .sheet) (b .book) (requestAt (a .sheet) (a .calls .now) (a .text .now) (b .next)) (b .count) m true) (sym long))
+          _ _ _ (c .before .before .before .before .before .before .before .number-of .ensures) (c .before .before .before .before .before .before .line-of .ensures) (c .before .before .before .before .before .posted-of .ensures) _ (c .before .before .before .before .reply .ensures) in
+          (n .0, n .1 ∙ ap (λ l. posted l (d .at) (d .plan) (d .n)) (t .1))),
+      (
+        subst (λ (x : Decision). (x .n ≤ 40) × (x .n ≤ a .places - x .at)) (sym is) fits,
+        (omega (arith, k .1 .0), omega (arith, c .before .before .before .before .before .before .before .before .before .before .before .before .if1 .left)),
+      ),
+    )
 
 pub go-on-spec : {M : Type 1} → statement M
 go-on-spec =
