@@ -331,7 +331,7 @@ fn move_verdict(
 
 // Whether a take (kind 1), a release (2) or a move (3) is accepted, by the commitments of the units that give and get, and the latter's last
 // offer quantity.
-pub fn commit_verdict(
+fn commit_verdict(
     kind: u64,
     units: u64,
     hour: u64,
@@ -365,7 +365,7 @@ pub fn target_of(kind: u64, unit: u64, to: u64) -> u64
 }
 
 // What the unit that gives is left with.
-pub fn left_with(kind: u64, source: u64, kwh: u64) -> u64
+fn left_with(kind: u64, source: u64, kwh: u64) -> u64
     requires { ⌜ (eqb kind 1 ≡ false → kwh ≤ source) ⌝ }
     ensures { λ r. ⌜ r ≡ leftWith kind source kwh ⌝ }
 {
@@ -376,7 +376,7 @@ pub fn left_with(kind: u64, source: u64, kwh: u64) -> u64
 }
 
 // What the unit that gets holds then.
-pub fn held_then(kind: u64, held: u64, kwh: u64) -> u64
+fn held_then(kind: u64, held: u64, kwh: u64) -> u64
     requires { ⌜ (eqb kind 2 ≡ true → kwh ≤ held) × (eqb kind 2 ≡ false → held + kwh < 2 ^ 64) ⌝ }
     ensures { λ r. ⌜ r ≡ heldThen kind held kwh ⌝ }
 {

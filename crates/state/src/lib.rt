@@ -7,7 +7,7 @@ ghost use Rattle.finite.specs.Finite.{every};
 ghost use Rattle.units.specs.Units.{memberAt};
 ghost use Rattle.sheet.specs.Ranges.{unitAt};
 ghost use Rattle.state.specs.Sizes.{hours, places, entries, entryOf};
-ghost use Rattle.state.specs.Book.{commitmentAt, markAt, energyAt, amountsAt, hourCommitments, hourAmounts, emptyBook, noResult, withCommitment, withHour};
+ghost use Rattle.state.specs.Book.{commitmentAt, markAt, energyAt, amountsAt, hourCommitments, hourAmounts, emptyBook, noResult, withHour};
 ghost use Rattle.state.specs.Ranges.{within as «is_within», limitOf, limitAt, kwhOf, keptTo, marksHold, energiesHold, itemsHold, amountsHold, bookHolds};
 use energy::HubGrains;
 use energy::HubKwh;
@@ -112,16 +112,6 @@ pub fn hour_amounts(book: Book, h: usize) -> [Amounts; 8]
         k += 1;
     }
     row
-}
-
-// The book with one commitment replaced.
-pub fn with_commitment(book: Book, h: usize, k: usize, kwh: HubKwh) -> Book
-    requires { ⌜ (h < hours) × (k < places) ⌝ }
-    ensures { λ r. ⌜ r ≡ withCommitment book h k kwh ⌝ }
-{
-    let mut b = book;
-    b.commitment[8 * h + k] = kwh;
-    b
 }
 
 // The book with an hour's mark and the energies and amounts of the plant's units replaced.

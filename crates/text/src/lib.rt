@@ -97,19 +97,8 @@ pub fn word_row(key: [u8; 10], word: [u8; 10]) -> Row
     }
 }
 
-// A line that holds no number.
-pub fn no_line() -> Line
-    ensures { λ r. ⌜ r ≡ noLine 0 ⌝ }
-{
-    Line {
-        code: 0,
-        count: 0,
-        number: [0u64; 24],
-    }
-}
-
 // A line that is refused.
-pub fn refused_line(code: u64) -> Line
+fn refused_line(code: u64) -> Line
     ensures { λ r. ⌜ r ≡ noLine code ⌝ }
 {
     Line {
