@@ -25,6 +25,7 @@ use Rattle.formulas.specs.Items.{paid, owed, energyPay, availability, inSeason,
 use Rattle.settlement.specs.declared.Rates.{Rates}
 use Rattle.settlement.specs.declared.Amounts.{Amounts}
 use Rattle.settlement.specs.declared.HourResult.{HourResult}
+use Rattle.settlement.specs.declared.HourSheet.{HourSheet}
 use Rattle.settlement.specs.Deviation.{deviationsOf}
 
 -- 01, title: "Five items a unit, in Rial"
@@ -45,6 +46,18 @@ amountAt amounts k i = getD (getD amounts k pastAmounts .item) i (pos 0)
 unfoldable pub ratesOf : Sheet → ℕ → Rates
 ratesOf sheet hour =
     record { season = inSeason (sheet .month) (sheet .day); loss = sheet .loss; bar = sheet .bar; cpf = getD (sheet .cpf) (hour - 1) 0 }
+
+-- what an hour's settlement uses of the sheet, by place
+unfoldable pub hourSheet : Sheet → ℕ → HourSheet
+hourSheet sheet hour =
+    record {
+      rates = ratesOf sheet hour;
+      ceiling = sheet .ceiling;
+      units = sheet .units;
+      own = tabulate 8 (λ k. sheetUnit (sheet .unit) k .own);
+      nominal = tabulate 8 (λ k. sheetUnit (sheet .unit) k .nominal);
+      offer = tabulate 8 (λ k. offerAt (sheetUnit (sheet .unit) k) (hour - 1));
+    }
 
 -- 1. Energy, by the unit's grains
 unfoldable pub energyItem : Offer → HubKwh → HubGrains → ℤ

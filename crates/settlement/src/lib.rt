@@ -23,9 +23,9 @@ ghost use Rattle.sheet.specs.Ranges.{unitAt as «sheet_unit», offerAt};
 ghost use Rattle.record.specs.Spans.{unitAt as «record_unit»};
 ghost use Rattle.record.proofs.InRange.{SpanInRange, UnitInRange, InRange};
 ghost use Rattle.settlement.specs.Deviation.{shortMinutes, proportions as «the_proportions», deviationsOf};
-ghost use Rattle.settlement.specs.Hour.{noAmounts, ratesOf, energyItem, availabilityItem, refundItem, testItem, amountsOf, plantOf, hourResult};
-ghost use Rattle.settlement.specs.Refusals.{readingsTotal, allMeasured, readingsHold, noProportion, unitProportioned, proportionsHold};
-ghost use Rattle.settlement.specs.Ranges.{HourRead, HourReady, RatesReady, SplitReady, UnitReady, UnitsReady, placeAmounts};
+ghost use Rattle.settlement.specs.Hour.{noAmounts, ratesOf, energyItem, availabilityItem, refundItem, testItem, amountsOf, hourSheet};
+ghost use Rattle.settlement.specs.Refusals.{readingsTotal, allMeasured, readingsHold, noProportion, unitProportioned};
+ghost use Rattle.settlement.specs.Ranges.{HourGiven, HourDue, RatesReady, SplitReady, UnitReady, UnitsReady, placeAmounts, plantBy, hourBy, proportionsBy};
 
 // The number of items of a unit.
 pub const ITEMS: usize = 5;
@@ -37,6 +37,16 @@ pub struct Rates {
     pub loss: u64,
     pub bar: u64,
     pub cpf: u64,
+}
+
+// What an hour's settlement uses of the sheet, by place: each unit's own use, nominal power and offer of the hour.
+pub struct HourSheet {
+    pub rates: Rates,
+    pub ceiling: u64,
+    pub units: u64,
+    pub own: [u64; 8],
+    pub nominal: [GrossKwh; 8],
+    pub offer: [Offer; 8],
 }
 
 // A unit's items, in Rial.
@@ -324,32 +334,48 @@ fn rates_of(sheet: Sheet, hour: u64) -> Rates
     }
 }
 
-// What the allocation rests on in the record's hour.
-fn plant_of(sheet: Sheet, hour: Record, commitment: [HubKwh; 8]) -> Plant
-    requires { ⌜ (1 ≤ hour .hour) × (hour .hour ≤ 24) ⌝ }
-    ensures { λ r. ⌜ r ≡ plantOf sheet hour commitment ⌝ }
+// What the settlement of an hour, 1 to 24, uses of the sheet. It is taken out once, so that the sheet is not handed on.
+pub fn hour_sheet(sheet: Sheet, hour: u64) -> HourSheet
+    requires { ⌜ (1 ≤ hour) × (hour ≤ 24) ⌝ }
+    ensures { λ r. ⌜ r ≡ hourSheet sheet hour ⌝ }
 {
-    let h = (hour.hour - 1) as usize;
-    Plant {
-        loss: sheet.loss,
+    let h = (hour - 1) as usize;
+    HourSheet {
+        rates: rates_of(sheet, hour),
+        ceiling: sheet.ceiling,
         units: sheet.units,
-        real: real_of(hour),
+        own: own_of(sheet),
         nominal: nominal_of(sheet),
-        commitment: commitment,
         offer: offers_of(sheet, h),
     }
 }
 
-// An hour's energies and amounts, from the sheet, the record and the hour's commitments.
-pub fn settle_hour(sheet: Sheet, hour: Record, commitment: [HubKwh; 8]) -> HourResult
-    requires { ⌜ HourReady sheet hour commitment ⌝ }
-    ensures { λ r. ⌜ r ≡ hourResult sheet hour commitment ⌝ }
+// What the allocation rests on in the record's hour.
+fn plant_of(day: HourSheet, hour: Record, commitment: [HubKwh; 8]) -> Plant
+    ensures { λ r. ⌜ r ≡ plantBy day hour commitment ⌝ }
 {
-    let rates = rates_of(sheet, hour.hour);
-    let own = own_of(sheet);
-    let plant = plant_of(sheet, hour, commitment);
+    let nominal = day.nominal;
+    let offer = day.offer;
+    Plant {
+        loss: day.rates.loss,
+        units: day.units,
+        real: real_of(hour),
+        nominal: nominal,
+        commitment: commitment,
+        offer: offer,
+    }
+}
+
+// An hour's energies and amounts, from what is used of the sheet, the record and the hour's commitments.
+pub fn settle_hour(day: HourSheet, hour: Record, commitment: [HubKwh; 8]) -> HourResult
+    requires { ⌜ HourDue day hour commitment ⌝ }
+    ensures { λ r. ⌜ r ≡ hourBy day hour commitment ⌝ }
+{
+    let rates = day.rates;
+    let own = day.own;
+    let plant = plant_of(day, hour, commitment);
     let energy = allocation::allocate(hour.net, hour.reverse, plant);
-    let drawn = formulas::drawn_pay(hour.reverse, hour.net, sheet.ceiling, sheet.loss);
+    let drawn = formulas::drawn_pay(hour.reverse, hour.net, day.ceiling, rates.loss);
     let amounts = hour_amounts(rates, plant, own, hour, energy, drawn);
     HourResult {
         energy: energy,
@@ -461,12 +487,12 @@ fn proportioned_at(units: u64, k: usize, own: u64, u: UnitRecord) -> bool
 }
 
 // Whether each unit of the plant that has a deviation has a proportion over 0: refusal 33 where one has none.
-pub fn proportions_hold(sheet: Sheet, hour: Record) -> bool
-    requires { ⌜ HourRead sheet hour ⌝ }
-    ensures { λ r. ⌜ r ≡ proportionsHold sheet hour ⌝ }
+pub fn proportions_hold(day: HourSheet, hour: Record) -> bool
+    requires { ⌜ HourGiven day hour ⌝ }
+    ensures { λ r. ⌜ r ≡ proportionsBy (day .units) (day .own) hour ⌝ }
 {
-    let units = sheet.units;
-    let own = own_of(sheet);
+    let units = day.units;
+    let own = day.own;
     let mut k: usize = 0;
     while k < 8 {
         let u = hour.unit[k];

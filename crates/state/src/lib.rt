@@ -7,7 +7,7 @@ ghost use Rattle.finite.specs.Finite.{every};
 ghost use Rattle.units.specs.Units.{memberAt};
 ghost use Rattle.sheet.specs.Ranges.{unitAt};
 ghost use Rattle.state.specs.Sizes.{hours, places, entries, entryOf};
-ghost use Rattle.state.specs.Book.{commitmentAt, markAt, energyAt, amountsAt, hourCommitments, hourAmounts, emptyBook, noResult, withHour};
+ghost use Rattle.state.specs.Book.{commitmentAt, markAt, energyAt, amountsAt, hourCommitments, hourAmounts, hourEntry, emptyBook, noResult, withHour};
 ghost use Rattle.state.specs.Ranges.{within as «is_within», limitOf, limitAt, kwhOf, keptTo, marksHold, energiesHold, itemsHold, amountsHold, bookHolds};
 use energy::HubGrains;
 use energy::HubKwh;
@@ -23,6 +23,13 @@ pub struct Book {
     pub mark: [u64; 24],
     pub energy: [HubGrains; 192],
     pub amounts: [Amounts; 192],
+}
+
+// What a book has of an hour, by place: its mark, the commitments, and the amounts stored.
+pub struct HourEntry {
+    pub mark: u64,
+    pub commitment: [HubKwh; 8],
+    pub amounts: [Amounts; 8],
 }
 
 // No commitments, all hours open.
@@ -112,6 +119,18 @@ pub fn hour_amounts(book: Book, h: usize) -> [Amounts; 8]
         k += 1;
     }
     row
+}
+
+// What a book has of an hour. It is taken out once, so that the book is not handed on.
+pub fn hour_entry(book: Book, h: usize) -> HourEntry
+    requires { ⌜ h < hours ⌝ }
+    ensures { λ r. ⌜ r ≡ hourEntry book h ⌝ }
+{
+    HourEntry {
+        mark: mark_at(book, h),
+        commitment: hour_commitments(book, h),
+        amounts: hour_amounts(book, h),
+    }
 }
 
 // The book with an hour's mark and the energies and amounts of the plant's units replaced.
