@@ -82,15 +82,6 @@ module _ (s : Sheet) (b : Book) (hour : ℕ) where
       ap (λ (l : List HubKwh). record { commitment = l; mark = b .mark; energy = b .energy; amounts = b .amounts })
       (set-set (b .commitment) p (record { 0 = x }) (record { 0 = y }) ∙ ap (λ (n : ℕ). set (b .commitment) n (record { 0 = y })) e)
 
--- the other kinds
-pub kind-other : (kind : ℕ) → (leb 1 kind && leb kind 3) ≡ false → (eqb kind 1 ≡ false) × (eqb kind 2 ≡ false) × (eqb kind 3 ≡ false)
-kind-other kind e = (ne-eqb kind 1 (is 1 refl), ne-eqb kind 2 (is 2 refl), ne-eqb kind 3 (is 3 refl))
-  where
-    is : (n : ℕ) → (leb 1 n && leb n 3) ≡ true → kind ≡ n → ⊥
-    is n t k =
-        let z : true ≡ false = sym t ∙ (ap (λ (m : ℕ). leb 1 m && leb m 3) (sym k) ∙ e) in
-        absurd (let y : _≡_ {A = ℕ} 0 1 = cc in omega arith)
-
 -- what an accepted one tells
 take-told : (units hour unit kwh : ℕ) (settled : Bool) (held last : ℕ) → verdict (takeTests units hour unit kwh settled held last) ≡ Accepted → held + kwh ≤ last
 take-told units hour unit kwh settled held last e =

@@ -15,6 +15,7 @@ pub mod Simulate
 pub mod Whole
 pub mod Promise
 pub mod Ladders
+pub mod Hours
 pub mod Committed
 pub mod Limits
 pub mod Carried

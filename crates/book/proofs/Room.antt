@@ -1,9 +1,9 @@
 -- What the passed tests say: the hour is one of 24 and the unit one of 8; by 9 and 12, a commitment is within the last offer quantity, and
--- the amounts that stand and those of a record that was read can be posted.
+-- the amounts that stand and those of a record that was read can be posted. So it is by what the sheet and the book have of an hour.
 -- Assumes nothing.
-use mathlib.Core.Path.{_≡_, refl}
+use mathlib.Core.Path.{_≡_, refl, sym, ap, ap₂, _∙_, subst}
 use mathlib.Core.Bool.{Bool, true, false, not, _||_}
-use Prim.Native.Nat.{ℕ, _-_, _≤_, _<_}
+use Prim.Native.Nat.{ℕ, suc, _-_, _≤_, _<_}
 use native.Mathlib.Omega.{arith}
 use borrow.Author.Tests.{ltb-false, not-false}
 use lib.Dec.{ltb}
@@ -13,17 +13,26 @@ use Rattle.sheet.specs.declared.Sheet.{Sheet}
 use Rattle.sheet.specs.Ranges.{sheetHolds}
 use Rattle.sheet.proofs.InRange.{in-range}
 use Rattle.record.specs.declared.Record.{Record}
-use Rattle.settlement.specs.Ranges.{HourRead, HourReady}
-use Rattle.settlement.specs.Hour.{hourResult}
+use Rattle.lines.specs.declared.ReadAnswer.the-variants.{Read}
+use Rattle.record.proofs.InRange.{InRange}
+use Rattle.settlement.specs.declared.HourResult.{HourResult}
+use Rattle.settlement.specs.declared.HourSheet.{HourSheet}
+use Rattle.settlement.specs.Ranges.{HourRead, HourReady, HourGiven, HourDue, hourBy}
+use Rattle.settlement.specs.Hour.{hourSheet, hourResult}
 use Rattle.settlement.proofs.Laws.{amount-most}
+use Rattle.settlement.proofs.Taken.{hour-by}
 use Rattle.state.specs.declared.Book.{Book}
-use Rattle.state.specs.Ranges.{bookHolds}
-use Rattle.state.specs.Book.{hourCommitments, noResult}
+use Rattle.state.specs.declared.HourEntry.{HourEntry}
+use Rattle.state.specs.Ranges.{bookHolds, AmountsWithin}
+use Rattle.state.specs.Book.{hourCommitments, hourEntry}
 use Rattle.state.proofs.InRange.{book-in-range, limit-most}
 use Rattle.state.proofs.Writing.{hour-commitment}
-use Rattle.state.proofs.Kept.{hour-within, none-within}
-use Rattle.book.specs.Sound.{PostReady}
+use Rattle.state.proofs.Kept.{hour-within}
+use Rattle.book.specs.declared.Request.{Request}
+use Rattle.book.specs.Sound.{PostReady, RecordDue, HourSound}
 use Rattle.book.specs.Calls.{badHour, unknownUnits, heldKwh, lastKwh}
+use Rattle.book.specs.Hours.{hourOf, postingPlace}
+use Rattle.book.proofs.Hours.{posting-lt, posting-at}
 
 or-left : (a b : Bool) → (a || b) ≡ false → a ≡ false
 or-left true b e = e
@@ -65,42 +74,89 @@ module _ (s : Sheet) (b : Book) (sheet-holds : sheetHolds s ≡ true) (book-hold
       let high = u .most in
       limit-most s (hour - 1) (unit - 1) (in-range s sheet-holds) (omega (arith, h .0, h .1)) (omega arith)
 
--- what is posted: the amounts stored for the hour, and the new ones
-module _ (s : Sheet) (b : Book) (sheet-holds : sheetHolds s ≡ true) (book-holds : bookHolds s b ≡ true) (count : ℕ) (few : count ≤ 100000) where
-  pub void-ready : (hour : ℕ) → (1 ≤ hour) × (hour ≤ 24) → PostReady s b hour noResult count
-  void-ready hour h =
+-- the commitments of a record's hour are in their range
+hour-ready : (s : Sheet) (b : Book) → bookHolds s b ≡ true → (r : Record) → HourRead s r → HourReady s r (hourCommitments b (r .hour - 1))
+hour-ready s b book-holds r read =
+    let low = read .in-range .hour-least in
+    let high = read .in-range .hour-most in
+    let before : r .hour - 1 < 24 = omega arith in
+    record {
+      read = read;
+      committed = λ k m.
+          let l = place-lt (s .units) k m in
+          rw (hour-commitment b (r .hour - 1) k l)
+          (omega (arith, book-in-range s b book-holds .commitment (r .hour - 1) k before l, limit-most s (r .hour - 1) k (in-range s (read .sheet-holds)) before l));
+    }
+
+-- what is used of the sheet has its mask
+pub units-of : (day : HourSheet) (s : Sheet) (hour : ℕ) → day ≡ hourSheet s hour → day .units ≡ s .units
+unfolding hourSheet
+units-of day s hour e = ap (λ (d : HourSheet). d .units) e
+
+-- a record that was read: what its tests and its settlement rest on, and what is posted
+module _ (day : HourSheet) (e : HourEntry) (r : Record) (due : RecordDue day e r) where
+  mask : day .units ≡ due .sheet .units
+  mask = units-of day (due .sheet) (r .hour) (due .day-is)
+
+  hour-fits : r .hour - 1 < 24
+  hour-fits = omega (arith, due .read .in-range .hour-least, due .read .in-range .hour-most)
+
+  pub due-range : InRange (day .units) r
+  due-range = rw mask (due .read .in-range)
+
+  pub due-given : HourGiven day r
+  due-given = record { sheet = due .sheet; is = due .day-is; read = due .read }
+
+  pub due-hour : HourDue day r (e .commitment)
+  due-hour =
       record {
-        low = h .0;
-        high = h .1;
-        few = few;
-        known = in-range s sheet-holds .units-most;
-        old = hour-within s b (book-in-range s b book-holds) (hour - 1) (s .units) (omega (arith, h .0, h .1));
-        new = none-within (s .units);
+        sheet = due .sheet;
+        is = due .day-is;
+        ready =
+            subst (λ (x : HourEntry). HourReady (due .sheet) r (x .commitment)) (sym (due .entry-is))
+            (hour-ready (due .sheet) (due .book) (due .book-holds) r (due .read));
       }
 
-  module _ (r : Record) (read : HourRead s r) where
-    pub hour-ready : HourReady s r (hourCommitments b (r .hour - 1))
-    hour-ready =
-        let low = read .in-range .hour-least in
-        let high = read .in-range .hour-most in
-        let before : r .hour - 1 < 24 = omega arith in
-        record {
-          read = read;
-          committed = λ k m.
-              let l = place-lt (s .units) k m in
-              rw (hour-commitment b (r .hour - 1) k l)
-              (omega (arith, book-in-range s b book-holds .commitment (r .hour - 1) k before l, limit-most s (r .hour - 1) k (in-range s (read .sheet-holds)) before l));
-        }
+  result-is : hourBy day r (e .commitment) ≡ hourResult (due .sheet) r (hourCommitments (due .book) (r .hour - 1))
+  result-is =
+      ap₂ (λ (d : HourSheet) (x : HourEntry). hourBy d r (x .commitment)) (due .day-is) (due .entry-is)
+      ∙ hour-by (due .sheet) r (hourCommitments (due .book) (r .hour - 1))
 
-    pub record-ready : PostReady s b (r .hour) (hourResult s r (hourCommitments b (r .hour - 1))) count
-    record-ready =
-        let low = read .in-range .hour-least in
-        let high = read .in-range .hour-most in
-        record {
-          low = low;
-          high = high;
-          few = few;
-          known = in-range s sheet-holds .units-most;
-          old = hour-within s b (book-in-range s b book-holds) (r .hour - 1) (s .units) (omega arith);
-          new = λ k m i l. amount-most s r (hourCommitments b (r .hour - 1)) hour-ready k (place-lt (s .units) k m) i;
-        }
+  pub due-posted : PostReady (day .units) (e .amounts) (hourBy day r (e .commitment))
+  due-posted =
+      let units = due .sheet .units in
+      let held = hourCommitments (due .book) (r .hour - 1) in
+      let old =
+      subst (λ (x : HourEntry). AmountsWithin units (x .amounts)) (sym (due .entry-is))
+      (hour-within (due .sheet) (due .book) (book-in-range (due .sheet) (due .book) (due .book-holds)) (r .hour - 1) units hour-fits) in
+      let new : AmountsWithin units (hourResult (due .sheet) r held .amounts) = λ k m i l.
+      amount-most (due .sheet) r held (hour-ready (due .sheet) (due .book) (due .book-holds) r (due .read)) k (place-lt units k m) i in
+      let ready : PostReady units (e .amounts) (hourResult (due .sheet) r held) =
+      record { known = in-range (due .sheet) (due .read .sheet-holds) .units-most; old-within = old; new-within = new } in
+      subst (λ (u : ℕ). PostReady u (e .amounts) (hourBy day r (e .commitment))) (sym mask)
+      (subst (λ (x : HourResult). PostReady units (e .amounts) x) (sym result-is) ready)
+
+-- a request: the amounts stored in its hour, and its record, where one was read
+module _ (day : HourSheet) (e : HourEntry) (q : Request) (sound : HourSound day e q) where
+  stored : AmountsWithin (sound .sheet .units) (e .amounts)
+  stored =
+      subst (λ (x : HourEntry). AmountsWithin (sound .sheet .units) (x .amounts)) (sym (sound .entry-is))
+      (hour-within (sound .sheet) (sound .book) (book-in-range (sound .sheet) (sound .book) (sound .book-holds)) (postingPlace q) (sound .sheet .units)
+      (posting-lt q))
+
+  pub sound-void : (day .units ≤ 255) × AmountsWithin (day .units) (e .amounts)
+  sound-void =
+      rw (units-of day (sound .sheet) (suc (postingPlace q)) (sound .day-is)) (in-range (sound .sheet) (sound .sheet-holds) .units-most, stored)
+
+  pub sound-record : hourOf (q .kind) (q .hour) (q .read .hour) ≡ q .read .hour → (place : ℕ) → q .answer ≡ Read place → RecordDue day e (q .read)
+  sound-record k place t =
+      let range = sound .well-read .range place t (sound .sheet-holds) in
+      let p = posting-at q k (range .hour-least) (range .hour-most) in
+      record {
+        sheet = sound .sheet;
+        book = sound .book;
+        day-is = sound .day-is ∙ ap (hourSheet (sound .sheet)) (p .1);
+        entry-is = sound .entry-is ∙ ap (hourEntry (sound .book)) (p .0);
+        read = record { sheet-holds = sound .sheet-holds; in-range = range };
+        book-holds = sound .book-holds;
+      }

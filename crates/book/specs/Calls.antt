@@ -6,6 +6,7 @@ use mathlib.Core.List.{List, [], _∷_, _++_}
 use lib.Dec.{ltb, leb, eqb}
 use lib.ListN.{length, take as firstOf}
 use lib.Seq.{paste}
+use Rattle.energy.specs.declared.GrossKwh.{GrossKwh}
 use Rattle.energy.specs.declared.HubKwh.{HubKwh}
 use Rattle.units.specs.Units.{isMember, unitCount}
 use Rattle.lines.specs.declared.ReadAnswer.{ReadAnswer}
@@ -134,20 +135,26 @@ abbrev pub textRows : ReadAnswer → List Row
 textRows (placeRead place) = []
 textRows (textRefused r) = row (Text r) true ∷ []
 
--- settle: text 31 40 32 33 42; restate has 41 in the place of 40
-abbrev pub recordRows : Sheet → Record → Row → (count places : ℕ) → List Row
-recordRows s r standing count places =
-    row Minutes (not (minutesHold r (s .units)))
+-- settle: text 31 40 32 33 42; restate has 41 in the place of 40. By the plant's mask and whether 33 does not hold
+abbrev pub recordTests : (units : ℕ) → (proportioned : Bool) → Record → Row → (count places : ℕ) → List Row
+recordTests units proportioned r standing count places =
+    row Minutes (not (minutesHold r units))
     ∷ standing
-    ∷ row Readings (not (readingsHold r (s .units)))
-    ∷ row Proportions (not (proportionsHold s r))
-    ∷ row NoPlaces (shortOf (s .units) count places)
+    ∷ row Readings (not (readingsHold r units))
+    ∷ row Proportions (not proportioned)
+    ∷ row NoPlaces (shortOf units count places)
     ∷ []
 
--- void: 10 41 42
+abbrev pub recordRows : Sheet → Record → Row → (count places : ℕ) → List Row
+recordRows s r standing count places = recordTests (s .units) (proportionsHold s r) r standing count places
+
+-- void: 10 41 42, by whether the hour is settled
+abbrev pub voidTests : (units hour : ℕ) → (settled : Bool) → (count places : ℕ) → List Row
+voidTests units hour settled count places =
+    row HourRange (badHour hour) ∷ row HourOpen (not settled) ∷ row NoPlaces (shortOf units count places) ∷ []
+
 abbrev pub voidRows : Sheet → Book → (hour count places : ℕ) → List Row
-voidRows s b hour count places =
-    row HourRange (badHour hour) ∷ row HourOpen (not (isSettled b hour)) ∷ row NoPlaces (shortOf (s .units) count places) ∷ []
+voidRows s b hour count places = voidTests (s .units) hour (isSettled b hour) count places
 
 -- the rows of a request, by its kind
 unfoldable pub requestRows : Sheet → Book → Request → (count places : ℕ) → List Row
@@ -227,28 +234,12 @@ unfoldable pub decided : Sheet → Book → Request → (count places : ℕ) →
 decided s b q count places posted =
     byVerdict (verdict (rowsOf s b q count places posted)) (acceptedIn s b q count) (refusedWith b count (q .start))
 
--- the same part by part, as the code goes: 12, the rows of a kind, and of a record that was read
+-- the same part by part, as the code goes: 12, and the rows of a kind
 abbrev pub bookFits : Sheet → Book → (count places : ℕ) → Bool → Bool
 bookFits s b count places posted = bookHolds s b && (countHolds count places && posted)
 
 abbrev pub requestDecided : Sheet → Book → Request → (count places : ℕ) → Decision
 requestDecided s b q count places = byVerdict (verdict (requestRows s b q count places)) (acceptedIn s b q count) (refusedWith b count (q .start))
-
-unfoldable pub voidDecided : Sheet → Book → (count start hour places : ℕ) → Decision
-voidDecided s b count start hour places =
-    byVerdict (verdict (voidRows s b hour count places)) (postedWith s b hour openMark noResult 0 count) (refusedWith b count start)
-
-unfoldable pub recordDecided : Sheet → Book → (count start : ℕ) → Record → (place : ℕ) → Refusal → Bool → (places : ℕ) → Decision
-recordDecided s b count start r place standing stands places =
-    byVerdict (verdict (recordRows s r (row standing stands) count places)) (recordedAt s b r place count) (refusedWith b count start)
-
-unfoldable pub settleDecided : Sheet → Book → Request → (count places : ℕ) → Decision
-settleDecided s b q count places =
-    byVerdict (verdict (textRows (q .answer) ++ recordRows s (q .read) (row HourStands (isSettled b (q .read .hour))) count places)) (recordedIn s b q count) (refusedWith b count (q .start))
-
-unfoldable pub restateDecided : Sheet → Book → Request → (count places : ℕ) → Decision
-restateDecided s b q count places =
-    byVerdict (verdict (textRows (q .answer) ++ recordRows s (q .read) (row HourOpen (not (isSettled b (q .read .hour)))) count places)) (recordedIn s b q count) (refusedWith b count (q .start))
 
 -- what is left of a decision once its postings are appended
 abbrev pub outcomeOf : Decision → Outcome
@@ -289,10 +280,13 @@ abbrev pub plainRequest : (kind hour unit to kwh : ℕ) → Request
 plainRequest kind hour unit to kwh =
     record { kind = kind; hour = hour; unit = unit; to = to; kwh = kwh; start = 0; answer = unread; read = noRecord }
 
-abbrev pub recordRequest : Sheet → (kind : ℕ) → List ℕ → (start : ℕ) → Request
-recordRequest s kind text start =
-    let r = readRecord text start (s .units) (monthlyOf s) in
+abbrev pub readRequest : (units : ℕ) → (monthly : List GrossKwh) → (kind : ℕ) → List ℕ → (start : ℕ) → Request
+readRequest units monthly kind text start =
+    let r = readRecord text start units monthly in
     record { kind = kind; hour = 0; unit = 0; to = 0; kwh = 0; start = start; answer = r .answer; read = r .read }
+
+abbrev pub recordRequest : Sheet → (kind : ℕ) → List ℕ → (start : ℕ) → Request
+recordRequest s kind text start = readRequest (s .units) (monthlyOf s) kind text start
 
 abbrev pub requestOf : Sheet → Call → Request
 requestOf s (take hour unit kwh) = plainRequest 1 hour unit 0 kwh

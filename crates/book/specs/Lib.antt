@@ -3,6 +3,7 @@ pub mod Reckoned
 pub mod Numbers
 pub mod Calls
 pub mod Commitments
+pub mod Hours
 pub mod Sound
 pub mod Agrees
 pub mod Demand

@@ -1,17 +1,25 @@
 -- What the code rests on between its parts: each is met from refusals 9 and 12 and from the record's reader.
 use mathlib.Core.Path.{_≡_}
 use mathlib.Core.Bool.{Bool, true}
-use Prim.Native.Nat.{ℕ, _-_, _≤_}
+use mathlib.Core.List.{List}
+use Prim.Native.Nat.{ℕ, suc, _-_, _≤_}
 use Rattle.lines.specs.declared.ReadAnswer.the-variants.{Read}
 use Rattle.sheet.specs.declared.Sheet.{Sheet}
 use Rattle.sheet.specs.Ranges.{sheetHolds}
 use Rattle.record.proofs.InRange.{InRange}
+use Rattle.settlement.specs.declared.Amounts.{Amounts}
 use Rattle.settlement.specs.declared.HourResult.{HourResult}
+use Rattle.settlement.specs.declared.HourSheet.{HourSheet}
+use Rattle.settlement.specs.Hour.{hourSheet}
+use Rattle.settlement.specs.Ranges.{HourRead}
 use Rattle.state.specs.declared.Book.{Book}
-use Rattle.state.specs.Book.{hourAmounts}
+use Rattle.state.specs.declared.HourEntry.{HourEntry}
+use Rattle.state.specs.Book.{hourEntry}
 use Rattle.state.specs.Ranges.{bookHolds, AmountsWithin}
 use Rattle.book.specs.declared.Request.{Request}
+use Rattle.record.specs.declared.Record.{Record}
 use Rattle.book.specs.Calls.{bookFits}
+use Rattle.book.specs.Hours.{postingPlace}
 
 -- a request whose record, where there is one, was read under the sheet
 pub record WellRead (sheet : Sheet) (q : Request) : Type 0 where
@@ -25,13 +33,28 @@ pub record Sound (sheet : Sheet) (book : Book) (q : Request) (count : ℕ) : Typ
   pub few : count ≤ 100000
 
 -- amounts whose differences can be posted
-pub record PostReady (sheet : Sheet) (book : Book) (hour : ℕ) (result : HourResult) (count : ℕ) : Type 0 where
-  pub low : 1 ≤ hour
-  pub high : hour ≤ 24
-  pub few : count ≤ 100000
-  pub known : sheet .units ≤ 255
-  pub old : AmountsWithin (sheet .units) (hourAmounts book (hour - 1))
-  pub new : AmountsWithin (sheet .units) (result .amounts)
+pub record PostReady (units : ℕ) (old : List Amounts) (result : HourResult) : Type 0 where
+  pub known : units ≤ 255
+  pub old-within : AmountsWithin units old
+  pub new-within : AmountsWithin units (result .amounts)
+
+-- after 9 and 12, by what the sheet and the book have of the hour: of a record that was read, and of a request
+pub record RecordDue (day : HourSheet) (e : HourEntry) (r : Record) : Type 0 where
+  pub sheet : Sheet
+  pub book : Book
+  pub day-is : day ≡ hourSheet sheet (r .hour)
+  pub entry-is : e ≡ hourEntry book (r .hour - 1)
+  pub read : HourRead sheet r
+  pub book-holds : bookHolds sheet book ≡ true
+
+pub record HourSound (day : HourSheet) (e : HourEntry) (q : Request) : Type 0 where
+  pub sheet : Sheet
+  pub book : Book
+  pub day-is : day ≡ hourSheet sheet (suc (postingPlace q))
+  pub entry-is : e ≡ hourEntry book (postingPlace q)
+  pub sheet-holds : sheetHolds sheet ≡ true
+  pub book-holds : bookHolds sheet book ≡ true
+  pub well-read : WellRead sheet q
 
 -- it is known whether the sheet keeps its ranges, and that the book, the count and the postings keep theirs: 12 does not hold
 pub record Known (sheet : Sheet) (holds : Bool) (book : Book) (count places : ℕ) : Type 0 where

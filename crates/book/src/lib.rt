@@ -6,26 +6,31 @@ ghost use lib.Dec.{leb, ltb, eqb};
 ghost use Prim.Native.Nat.{ℕ, _+_, _/_, _%_, _^_, _≤_, _<_, min};
 ghost use lib.ListN.{getD};
 ghost use Rattle.state.specs.Book.{noKwh};
-ghost use Rattle.state.specs.Ranges.{limitOf, limitAt, bookHolds};
-ghost use Rattle.sheet.specs.Ranges.{offerAt, sheetHolds};
-ghost use Rattle.settlement.specs.Ranges.{HourRead};
-ghost use Rattle.book.specs.Calls.{verdict, badHour, unknownUnits, shortOf, isSettled, takeTests, releaseTests, moveTests, noPlan, refusedWith, changedTo, postedWith, voidDecided, recordDecided, settleDecided, restateDecided, requestDecided, bookFits, decided, outcomeOf, plainRequest, recordRequest, requestOf};
+ghost use Rattle.lines.specs.declared.ReadAnswer.the-variants.{Read};
+ghost use Rattle.state.specs.Ranges.{limitOf, limitAt, AmountsWithin};
+ghost use Rattle.sheet.specs.Ranges.{offerAt};
+ghost use Rattle.book.specs.Calls.{verdict, badHour, unknownUnits, shortOf, takeTests, releaseTests, moveTests, noPlan, refusedWith, changedTo, requestDecided, bookFits, decided, outcomeOf, plainRequest, readRequest, requestOf};
 ghost use Rattle.book.specs.Commitments.{hourPlace, entryPlace, commitVerdict, targetOf, leftWith, heldThen, shiftOf, commitmentDecided};
+ghost use Rattle.book.specs.Hours.{hourRefused, hourPosted, voidIn, recordIn, settleIn, restateIn, hourOf, postingPlace, hourIn, knownIn, appliedTo};
 ghost use Rattle.book.specs.Ledger.{void};
 ghost use Rattle.book.specs.Numbers.{refusalNumber, refusalLine, numberOf, lineOf, postedOf};
 ghost use Rattle.book.specs.Total.{noTotal, totalDecided};
 ghost use Rattle.book.specs.Requests.{takeRequest, releaseRequest, moveRequest, voidRequest, settleRequest, restateRequest, partOf, callFor, askedAt, requestAt};
-ghost use Rattle.book.specs.Sound.{PostReady, Sound, WellRead, Known};
+ghost use Rattle.book.specs.Sound.{PostReady, RecordDue, HourSound, Sound, WellRead};
+use energy::GrossKwh;
 use energy::HubKwh;
 use lines::ReadAnswer;
 use lines::TextRefusal;
 use postings::Plan;
 use postings::Scanned;
 use record::Record;
+use settlement::Amounts;
 use settlement::HourResult;
+use settlement::HourSheet;
 use sheet::Sheet;
 use sheet::UnitSheet;
 use state::Book;
+use state::HourEntry;
 
 // Why a call is refused.
 pub enum Refusal {
@@ -113,6 +118,18 @@ pub struct Decision {
     pub book: Book,
 }
 
+// What a settle, restate or void comes to: n postings of the plan, the answer and the text place, and, where it is accepted, the hour's mark,
+// energies and amounts after it.
+pub struct HourDecision {
+    pub plan: Plan,
+    pub n: usize,
+    pub accepted: bool,
+    pub answer: Answer,
+    pub place: u64,
+    pub mark: u64,
+    pub result: HourResult,
+}
+
 // What a call answers and leaves, without what it posted.
 pub struct Outcome {
     pub answer: Answer,
@@ -186,13 +203,6 @@ fn units_unknown(units: u64, from: u64, to: u64) -> bool
         return true;
     }
     !units::has_unit(units, to)
-}
-
-fn is_settled(book: Book, hour: u64) -> bool
-    requires { ⌜ (1 ≤ hour) × (hour ≤ 24) ⌝ }
-    ensures { λ r. ⌜ r ≡ isSettled book hour ⌝ }
-{
-    state::mark_at(book, (hour - 1) as usize) == 1
 }
 
 // Where an hour stands in the book, 0 for one that is none.
@@ -501,63 +511,75 @@ fn least(a: u64, b: u64) -> u64
     b
 }
 
-// The postings of an hour whose energies and amounts become those of `result`.
+fn hour_refused(start: u64, refusal: Refusal) -> HourDecision
+    ensures { λ r. ⌜ r ≡ hourRefused start refusal ⌝ }
+{
+    HourDecision {
+        plan: no_plan(),
+        n: 0,
+        accepted: false,
+        answer: Answer::Refused(refusal),
+        place: start,
+        mark: 0,
+        result: state::no_result(),
+    }
+}
+
+// The postings of an hour whose amounts were `old`, and whose energies and amounts become those of `result`.
 fn post_hour(
-    sheet: Sheet,
-    book: Book,
+    units: u64,
+    old: [Amounts; 8],
     hour: u64,
     mark: u64,
     result: HourResult,
     place: u64,
-    count: u64,
-) -> Decision
-    requires { ⌜ PostReady sheet book hour result count ⌝ }
-    ensures { λ r. ⌜ r ≡ postedWith sheet book hour mark result place count ⌝ }
+) -> HourDecision
+    requires { ⌜ PostReady units old result ⌝ }
+    ensures { λ r. ⌜ r ≡ hourPosted units old hour mark result place ⌝ }
 {
-    let h = (hour - 1) as usize;
-    let units = sheet.units;
     let n = 5 * units::unit_count(units);
-    let old = state::hour_amounts(book, h);
     let new = result.amounts;
-    Decision {
+    HourDecision {
         plan: postings::plan_of(hour, units, old, new),
-        at: count as usize,
         n: n as usize,
+        accepted: true,
         answer: Answer::Posted(n),
         place: place,
-        count: count + n,
-        book: state::with_hour(book, h, mark, units, result),
+        mark: mark,
+        result: result,
     }
 }
 
 // void: 10 41 42.
 fn decide_void(
-    sheet: Sheet,
-    book: Book,
+    day: HourSheet,
+    entry: HourEntry,
     count: u64,
     start: u64,
     hour: u64,
     places: usize,
-) -> Decision
-    requires { ⌜ (sheetHolds sheet ≡ true) × (bookHolds sheet book ≡ true) × (count ≤ 100000) ⌝ }
-    ensures { λ r. ⌜ r ≡ voidDecided sheet book count start hour places ⌝ }
+) -> HourDecision
+    requires { ⌜ (day .units ≤ 255) × AmountsWithin (day .units) (entry .amounts) ⌝ }
+    ensures { λ r. ⌜ r ≡ voidIn day entry count start hour places ⌝ }
 {
+    let units = day.units;
+    let old = entry.amounts;
     if hour_bad(hour) {
-        return refused(book, count, start, Refusal::HourRange);
+        return hour_refused(start, Refusal::HourRange);
     }
-    if !is_settled(book, hour) {
-        return refused(book, count, start, Refusal::HourOpen);
+    if entry.mark != 1 {
+        return hour_refused(start, Refusal::HourOpen);
     }
-    if short_of(sheet.units, count, places) {
-        return refused(book, count, start, Refusal::NoPlaces);
+    if short_of(units, count, places) {
+        return hour_refused(start, Refusal::NoPlaces);
     }
-    post_hour(sheet, book, hour, 0, state::no_result(), 0, count)
+    post_hour(units, old, hour, 0, state::no_result(), 0)
 }
 
 // A record that was read: 31, `standing` where it holds, 32 33 42.
 fn decide_record(
-    sheet: Sheet,
-    book: Book,
+    day: HourSheet,
+    entry: HourEntry,
     count: u64,
     start: u64,
     read: Record,
@@ -565,89 +587,188 @@ fn decide_record(
     standing: Refusal,
     stands: bool,
     places: usize,
-) -> Decision
-    requires { ⌜ (bookHolds sheet book ≡ true) × HourRead sheet read × (count ≤ 100000) ⌝ }
-    ensures { λ r. ⌜ r ≡ recordDecided sheet book count start read place standing stands places ⌝ }
+) -> HourDecision
+    requires { ⌜ RecordDue day entry read ⌝ }
+    ensures { λ r. ⌜ r ≡ recordIn day entry count start read place standing stands places ⌝ }
 {
-    if !record::minutes_hold(read, sheet.units) {
-        return refused(book, count, start, Refusal::Minutes);
+    let units = day.units;
+    let held = entry.commitment;
+    let old = entry.amounts;
+    if !record::minutes_hold(read, units) {
+        return hour_refused(start, Refusal::Minutes);
     }
     if stands {
-        return refused(book, count, start, standing);
+        return hour_refused(start, standing);
     }
-    if !settlement::readings_hold(read, sheet.units) {
-        return refused(book, count, start, Refusal::Readings);
+    if !settlement::readings_hold(read, units) {
+        return hour_refused(start, Refusal::Readings);
     }
-    if !settlement::proportions_hold(sheet, read) {
-        return refused(book, count, start, Refusal::Proportions);
+    if !settlement::proportions_hold(day, read) {
+        return hour_refused(start, Refusal::Proportions);
     }
-    if short_of(sheet.units, count, places) {
-        return refused(book, count, start, Refusal::NoPlaces);
+    if short_of(units, count, places) {
+        return hour_refused(start, Refusal::NoPlaces);
     }
-    let hour = read.hour;
-    let held = state::hour_commitments(book, (hour - 1) as usize);
     post_hour(
-        sheet,
-        book,
-        hour,
+        units,
+        old,
+        read.hour,
         1,
-        settlement::settle_hour(sheet, read, held),
+        settlement::settle_hour(day, read, held),
         place,
-        count,
     )
 }
 
 // settle: text 31 40 32 33 42.
-fn decide_settle(sheet: Sheet, book: Book, request: Request, count: u64, places: usize) -> Decision
-    requires { ⌜ Sound sheet book request count ⌝ }
-    ensures { λ r. ⌜ r ≡ settleDecided sheet book request count places ⌝ }
+fn decide_settle(
+    day: HourSheet,
+    entry: HourEntry,
+    request: Request,
+    count: u64,
+    places: usize,
+) -> HourDecision
+    requires { ⌜ ((place : ℕ) → request .answer ≡ Read place → RecordDue day entry (request .read)) ⌝ }
+    ensures { λ r. ⌜ r ≡ settleIn day entry request count places ⌝ }
 {
     let start = request.start;
     let answer = request.answer;
     let read = request.read;
+    let stands = entry.mark == 1;
     match answer {
-        ReadAnswer::Read(place) => {
-            let stands = is_settled(book, read.hour);
-            decide_record(
-                sheet,
-                book,
-                count,
-                start,
-                read,
-                place,
-                Refusal::HourStands,
-                stands,
-                places,
-            )
-        }
-        ReadAnswer::Refused(refusal) => refused(book, count, start, Refusal::Text(refusal)),
+        ReadAnswer::Read(place) => decide_record(
+            day,
+            entry,
+            count,
+            start,
+            read,
+            place,
+            Refusal::HourStands,
+            stands,
+            places,
+        ),
+        ReadAnswer::Refused(refusal) => hour_refused(start, Refusal::Text(refusal)),
     }
 }
 
 // restate: text 31 41 32 33 42.
-fn decide_restate(sheet: Sheet, book: Book, request: Request, count: u64, places: usize) -> Decision
-    requires { ⌜ Sound sheet book request count ⌝ }
-    ensures { λ r. ⌜ r ≡ restateDecided sheet book request count places ⌝ }
+fn decide_restate(
+    day: HourSheet,
+    entry: HourEntry,
+    request: Request,
+    count: u64,
+    places: usize,
+) -> HourDecision
+    requires { ⌜ ((place : ℕ) → request .answer ≡ Read place → RecordDue day entry (request .read)) ⌝ }
+    ensures { λ r. ⌜ r ≡ restateIn day entry request count places ⌝ }
 {
     let start = request.start;
     let answer = request.answer;
     let read = request.read;
+    let open = entry.mark != 1;
     match answer {
-        ReadAnswer::Read(place) => {
-            let open = !is_settled(book, read.hour);
-            decide_record(
-                sheet,
-                book,
-                count,
-                start,
-                read,
-                place,
-                Refusal::HourOpen,
-                open,
-                places,
-            )
-        }
-        ReadAnswer::Refused(refusal) => refused(book, count, start, Refusal::Text(refusal)),
+        ReadAnswer::Read(place) => decide_record(
+            day,
+            entry,
+            count,
+            start,
+            read,
+            place,
+            Refusal::HourOpen,
+            open,
+            places,
+        ),
+        ReadAnswer::Refused(refusal) => hour_refused(start, Refusal::Text(refusal)),
+    }
+}
+
+// The hour that a settle, restate or void is for, by the request's and the record's.
+fn hour_of(kind: u64, hour: u64, read: u64) -> u64
+    ensures { λ r. ⌜ r ≡ hourOf kind hour read ⌝ }
+{
+    if kind == 4 {
+        return read;
+    }
+    if kind == 5 {
+        return read;
+    }
+    hour
+}
+
+// Where that hour stands in the book, 0 for one that is none.
+pub fn posting_place(request: Request) -> usize
+    ensures { λ r. ⌜ r ≡ postingPlace request ⌝ }
+    ensures { λ r. ⌜ r < 24 ⌝ }
+{
+    let read = request.read;
+    hour_place(hour_of(request.kind, request.hour, read.hour))
+}
+
+// A settle, restate or void, by what the sheet and the book have of its hour.
+fn decide_hour(
+    day: HourSheet,
+    entry: HourEntry,
+    request: Request,
+    count: u64,
+    places: usize,
+) -> HourDecision
+    requires { ⌜ HourSound day entry request ⌝ }
+    ensures { λ r. ⌜ r ≡ hourIn day entry request count places ⌝ }
+{
+    let kind = request.kind;
+    if kind == 4 {
+        return decide_settle(day, entry, request, count, places);
+    }
+    if kind == 5 {
+        return decide_restate(day, entry, request, count, places);
+    }
+    decide_void(day, entry, count, request.start, request.hour, places)
+}
+
+// The same where the book, the count and the postings are known to be in their ranges, and `holds` says whether the sheet is.
+pub fn decide_known(
+    holds: bool,
+    day: HourSheet,
+    entry: HourEntry,
+    request: Request,
+    count: u64,
+    places: usize,
+) -> HourDecision
+    requires { ⌜ (holds ≡ true → HourSound day entry request) ⌝ }
+    ensures { λ r. ⌜ r ≡ knownIn holds day entry request count places ⌝ }
+{
+    if holds {
+        return decide_hour(day, entry, request, count, places);
+    }
+    hour_refused(request.start, Refusal::SheetRange)
+}
+
+// What it comes to on the book, in the hour at place h.
+pub fn applied(book: Book, h: usize, units: u64, count: u64, d: HourDecision) -> Decision
+    requires { ⌜ (h < 24) × (d .accepted ≡ true → count + d .n < 2 ^ 64) ⌝ }
+    ensures { λ r. ⌜ r ≡ appliedTo units book count h d ⌝ }
+{
+    let plan = d.plan;
+    let answer = d.answer;
+    if !d.accepted {
+        return Decision {
+            plan: plan,
+            at: 0,
+            n: d.n,
+            answer: answer,
+            place: d.place,
+            count: count,
+            book: book,
+        };
+    }
+    let result = d.result;
+    Decision {
+        plan: plan,
+        at: count as usize,
+        n: d.n,
+        answer: answer,
+        place: d.place,
+        count: count + (d.n as u64),
+        book: state::with_hour(book, h, d.mark, units, result),
     }
 }
 
@@ -705,13 +826,11 @@ fn decide_request(sheet: Sheet, book: Book, request: Request, count: u64, places
     if commits(kind) {
         return decide_commitment(sheet, book, count, start, kind, hour, unit, request.to, kwh);
     }
-    if kind == 4 {
-        return decide_settle(sheet, book, request, count, places);
-    }
-    if kind == 5 {
-        return decide_restate(sheet, book, request, count, places);
-    }
-    decide_void(sheet, book, count, start, hour, places)
+    let h = posting_place(request);
+    let day = settlement::hour_sheet(sheet, h as u64 + 1);
+    let entry = state::hour_entry(book, h);
+    let d = decide_hour(day, entry, request, count, places);
+    applied(book, h, sheet.units, count, d)
 }
 
 // The rest of 12: the book's ranges, the count's, and the postings'.
@@ -749,24 +868,6 @@ pub fn decide(
     decide_request(sheet, book, request, count, places)
 }
 
-// The same where the book, the count and the postings are known to be in their ranges, and `holds` says whether the sheet is.
-pub fn decide_known(
-    sheet: Sheet,
-    holds: bool,
-    book: Book,
-    request: Request,
-    count: u64,
-    places: usize,
-) -> Decision
-    requires { ⌜ Known sheet holds book count places × WellRead sheet request ⌝ }
-    ensures { λ r. ⌜ r ≡ decided sheet book request count places true ⌝ }
-{
-    if holds {
-        return decide_request(sheet, book, request, count, places);
-    }
-    refused(book, count, request.start, Refusal::SheetRange)
-}
-
 pub fn outcome_of(d: Decision) -> Outcome
     ensures { λ r. ⌜ r ≡ outcomeOf d ⌝ }
 {
@@ -795,10 +896,17 @@ fn plain_request(kind: u64, hour: u64, unit: u64, to: u64, kwh: u64) -> Request
     }
 }
 
-fn record_request(sheet: Sheet, kind: u64, text: &[u8], start: u64) -> Request
-    ensures { λ r. ⌜ r ≡ recordRequest sheet kind (now (text .entry)) start ⌝ }
+// The request of a record's text, for the plant's units with their monthly practical powers.
+fn record_request(
+    units: u64,
+    monthly: [GrossKwh; 8],
+    kind: u64,
+    text: &[u8],
+    start: u64,
+) -> Request
+    ensures { λ r. ⌜ r ≡ readRequest units monthly kind (now (text .entry)) start ⌝ }
 {
-    let read = record::read_record(text, start, sheet.units, sheet::monthly_of(sheet));
+    let read = record::read_record(text, start, units, monthly);
     let answer = read.answer;
     let found = read.read;
     Request {
@@ -840,13 +948,13 @@ pub fn void_request(hour: u64) -> Request
 pub fn settle_request(sheet: Sheet, text: &[u8], start: u64) -> Request
     ensures { λ r. ⌜ r ≡ settleRequest sheet (now (text .entry)) start ⌝ }
 {
-    record_request(sheet, 4, text, start)
+    record_request(sheet.units, sheet::monthly_of(sheet), 4, text, start)
 }
 
 pub fn restate_request(sheet: Sheet, text: &[u8], start: u64) -> Request
     ensures { λ r. ⌜ r ≡ restateRequest sheet (now (text .entry)) start ⌝ }
 {
-    record_request(sheet, 5, text, start)
+    record_request(sheet.units, sheet::monthly_of(sheet), 5, text, start)
 }
 
 // The part of a text from `begin` to before `end`, as far as the text goes.
@@ -877,10 +985,12 @@ pub fn request_of(sheet: Sheet, text: &[u8], asked: Asked) -> Request
         return plain_request(3, hour, unit, asked.to, kwh);
     }
     if kind == 4 {
-        return record_request(sheet, 4, part_of(text, asked.begin, asked.end), start);
+        let part = part_of(text, asked.begin, asked.end);
+        return record_request(sheet.units, sheet::monthly_of(sheet), 4, part, start);
     }
     if kind == 5 {
-        return record_request(sheet, 5, part_of(text, asked.begin, asked.end), start);
+        let part = part_of(text, asked.begin, asked.end);
+        return record_request(sheet.units, sheet::monthly_of(sheet), 5, part, start);
     }
     plain_request(6, hour, 0, 0, 0)
 }

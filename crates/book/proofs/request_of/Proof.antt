@@ -1,10 +1,8 @@
 -- Each return is the call of the kind that was asked for.
 -- Assumes nothing.
-use mathlib.Core.Path.{ap, _∙_}
-use mathlib.Core.List.{List}
-use Prim.Native.Nat.{ℕ}
+use mathlib.Core.Path.{_∙_}
 use borrow.Author.Tests.{eq-eqb, ne-eqb}
-use Rattle.book.specs.Calls.{recordRequest}
+use Rattle.book.specs.Calls.{readRequest}
 use Rattle.book.proofs.Numbered.{take-by, release-by, move-by, settle-by, restate-by, void-by}
 use borrow.Author.Needs.{needs}
 use Rattle.book.proofs.request_of.Statement.{statement}
@@ -31,26 +29,34 @@ returns-3 c = c .plain-request3 .ensures ∙ move-by _ _ _ (ne-eqb _ _ (c .befor
 part-of-requires : tie.Need-part-of-requires
 part-of-requires c κs = search needs
 
+monthly-of-requires : tie.Need-monthly-of-requires
+monthly-of-requires c κs = search needs
+
 record-request-requires : tie.Need-record-request-requires
 record-request-requires c κs = search needs
 
 returns-4 : tie.Need-returns-4
 returns-4 c =
+    let a = c .before .before .before .before .before .before .before .before .args in
     c .record-request .ensures
-    ∙ (ap (λ (t : List ℕ). recordRequest (c .before .before .before .before .before .before .before .args .sheet) 4 t (c .before .before .before .before .before .before .before .args .asked .start)) (c .before .part-of .ensures)
-    ∙ settle-by _ _ _ (ne-eqb _ _ (c .before .before .before .before .before .if1 .left)) (ne-eqb _ _ (c .before .before .before .before .if2 .left)) (ne-eqb _ _ (c .before .before .before .if3 .left)) (eq-eqb _ _ (c .before .before .if4 .taken)))
+    ∙ ((λ j. readRequest (a .sheet .units) (c .before .monthly-of .ensures j) 4 (c .before .before .part-of .ensures j) (a .asked .start))
+    ∙ settle-by _ _ _ (ne-eqb _ _ (c .before .before .before .before .before .before .if1 .left)) (ne-eqb _ _ (c .before .before .before .before .before .if2 .left)) (ne-eqb _ _ (c .before .before .before .before .if3 .left)) (eq-eqb _ _ (c .before .before .before .if4 .taken)))
 
 part-of-requires-2 : tie.Need-part-of-requires-2
 part-of-requires-2 c κs = search needs
+
+monthly-of-requires-2 : tie.Need-monthly-of-requires-2
+monthly-of-requires-2 c κs = search needs
 
 record-request-requires-2 : tie.Need-record-request-requires-2
 record-request-requires-2 c κs = search needs
 
 returns-5 : tie.Need-returns-5
 returns-5 c =
+    let a = c .before .before .before .before .before .before .before .before .before .args in
     c .record-request2 .ensures
-    ∙ (ap (λ (t : List ℕ). recordRequest (c .before .before .before .before .before .before .before .before .args .sheet) 5 t (c .before .before .before .before .before .before .before .before .args .asked .start)) (c .before .part-of2 .ensures)
-    ∙ restate-by _ _ _ (ne-eqb _ _ (c .before .before .before .before .before .before .if1 .left)) (ne-eqb _ _ (c .before .before .before .before .before .if2 .left)) (ne-eqb _ _ (c .before .before .before .before .if3 .left)) (ne-eqb _ _ (c .before .before .before .if4 .left)) (eq-eqb _ _ (c .before .before .if5 .taken)))
+    ∙ ((λ j. readRequest (a .sheet .units) (c .before .monthly-of2 .ensures j) 5 (c .before .before .part-of2 .ensures j) (a .asked .start))
+    ∙ restate-by _ _ _ (ne-eqb _ _ (c .before .before .before .before .before .before .before .if1 .left)) (ne-eqb _ _ (c .before .before .before .before .before .before .if2 .left)) (ne-eqb _ _ (c .before .before .before .before .before .if3 .left)) (ne-eqb _ _ (c .before .before .before .before .if4 .left)) (eq-eqb _ _ (c .before .before .before .if5 .taken)))
 
 plain-request-requires-4 : tie.Need-plain-request-requires-4
 plain-request-requires-4 c κs = search needs
@@ -69,9 +75,11 @@ request-of-spec =
     plain-request-requires-3
     returns-3
     part-of-requires
+    monthly-of-requires
     record-request-requires
     returns-4
     part-of-requires-2
+    monthly-of-requires-2
     record-request-requires-2
     returns-5
     plain-request-requires-4

@@ -1,0 +1,22 @@
+-- The parts are the definition's.
+-- Assumes nothing.
+use borrow.Author.Needs.{needs}
+use Rattle.book.proofs.hour_refused.Statement.{statement}
+use Rattle.book.proofs.hour_refused.Tie as tie
+
+no-plan-requires : tie.Need-no-plan-requires
+no-plan-requires c κs = search needs
+
+no-result-requires : tie.Need-no-result-requires
+no-result-requires c κs = search needs
+
+returns : tie.Need-returns
+returns c = rw (c .before .no-plan .ensures, c .no-result .ensures)
+
+pub hour-refused-spec : {M : Type 1} → statement M
+hour-refused-spec =
+    tie.close
+    (tie.spec
+    no-plan-requires
+    no-result-requires
+    returns)
