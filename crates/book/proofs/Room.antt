@@ -7,6 +7,7 @@ use Prim.Native.Nat.{ℕ, suc, _-_, _≤_, _<_}
 use native.Mathlib.Omega.{arith}
 use borrow.Author.Tests.{ltb-false, not-false}
 use lib.Dec.{ltb}
+use Rattle.finite.proofs.Tests.{and-left, and-right}
 use Rattle.units.specs.Units.{isMember}
 use Rattle.units.proofs.Laws.{member, place-lt}
 use Rattle.sheet.specs.declared.Sheet.{Sheet}
@@ -28,9 +29,11 @@ use Rattle.state.specs.Book.{hourCommitments, hourEntry}
 use Rattle.state.proofs.InRange.{book-in-range, limit-most}
 use Rattle.state.proofs.Writing.{hour-commitment}
 use Rattle.state.proofs.Kept.{hour-within}
+use Rattle.postings.specs.Journal.{countHolds}
+use Rattle.postings.proofs.Counted.{count-most}
 use Rattle.book.specs.declared.Request.{Request}
-use Rattle.book.specs.Sound.{PostReady, RecordDue, HourSound}
-use Rattle.book.specs.Calls.{badHour, unknownUnits, heldKwh, lastKwh}
+use Rattle.book.specs.Sound.{PostReady, RecordDue, HourSound, WellRead, Known}
+use Rattle.book.specs.Calls.{badHour, unknownUnits, heldKwh, lastKwh, bookFits}
 use Rattle.book.specs.Hours.{hourOf, postingPlace}
 use Rattle.book.proofs.Hours.{posting-lt, posting-at}
 
@@ -160,3 +163,28 @@ module _ (day : HourSheet) (e : HourEntry) (q : Request) (sound : HourSound day 
         read = record { sheet-holds = sound .sheet-holds; in-range = range };
         book-holds = sound .book-holds;
       }
+
+-- where it is known that 12 does not hold, and whether 9 does: what a call rests on by what the sheet and the book have of its hour
+module _ (s : Sheet) (holds : Bool) (b : Book) (count places : ℕ) (k : Known s holds b count places) (t : holds ≡ true) where
+  nine : sheetHolds s ≡ true
+  nine = sym (k .same) ∙ t
+
+  twelve : bookFits s b count places true ≡ true
+  twelve = k .fits nine
+
+  pub known-sound : (day : HourSheet) (e : HourEntry) (q : Request) → WellRead s q → day ≡ hourSheet s (suc (postingPlace q)) → e ≡ hourEntry b (postingPlace q)
+      → HourSound day e q
+  known-sound day e q well day-is entry-is =
+      record {
+        sheet = s;
+        book = b;
+        day-is = day-is;
+        entry-is = entry-is;
+        sheet-holds = nine;
+        book-holds = and-left (bookHolds s b) _ twelve;
+        well-read = well;
+      }
+
+  pub known-least : (s .units ≤ 255) × (count ≤ 100000)
+  known-least =
+      (in-range s nine .units-most, count-most count places (and-left (countHolds count places) true (and-right (bookHolds s b) _ twelve)))

@@ -1,7 +1,7 @@
 -- A list of calls under way: what its parts rest on between two calls. `journal` is the list of places and `first` the answers' places as they were
 -- before the first call.
 use mathlib.Core.Path.{_≡_}
-use mathlib.Core.Bool.{true, _&&_}
+use mathlib.Core.Bool.{true, false, _&&_}
 use mathlib.Core.List.{List}
 use Prim.Native.Nat.{ℕ, _/_, _≤_, _<_}
 use lib.Dec.{leb}
@@ -47,6 +47,10 @@ pub record Due (sheet : Sheet) (calls text answers : List ℕ) (places n : ℕ) 
 -- the calls from one place on up to another are takes, releases and moves
 abbrev pub AllCommit : List ℕ → (from to : ℕ) → Type 0
 AllCommit calls from to = (j : ℕ) → from ≤ j → j < to → (leb 1 (askedAt calls j .kind) && leb (askedAt calls j .kind) 3) ≡ true
+
+-- a call is a settle, a restate or a void
+abbrev pub Posts : List ℕ → ℕ → Type 0
+Posts calls i = (leb 1 (askedAt calls i .kind) && leb (askedAt calls i .kind) 3) ≡ false
 
 -- what they leave: the list of places is as before them
 abbrev pub Commits : Sheet → (calls entry exit : List ℕ) → (before after : Stand) → Type 0

@@ -1,18 +1,21 @@
 // The calls over the lent journal, a list of postings and a count of them. What a call comes to is decided in the crate `book`; here the
 // postings are looked at and appended.
 ghost use mathlib.Core.Path.{_≡_};
+ghost use mathlib.Core.Bool.{true, false, _&&_};
 ghost use mathlib.Core.List.{List};
+ghost use lib.Dec.{leb};
 ghost use Prim.Native.Nat.{ℕ, _≤_, _<_, _-_};
 ghost use lib.ListN.{length};
-ghost use Rattle.book.specs.Sound.{WellRead};
-ghost use Rattle.book.specs.Calls.{State, requestOf};
+ghost use Rattle.book.specs.Sound.{WellRead, Known};
+ghost use Rattle.book.specs.Calls.{State, requestOf, decided};
 ghost use Rattle.book.specs.Total.{totalOn};
 ghost use Rattle.book.specs.Requests.{takeRequest, releaseRequest, moveRequest, settleRequest, restateRequest, voidRequest, callFor, callsIn};
 ghost use Rattle.book.specs.Demand.{Demand};
 ghost use Rattle.journal.specs.Journal.{scannedIn, posted, Performed, performed};
 ghost use Rattle.journal.specs.Run.{Running, startRan, turnsOf, replied, repliesIn, ranAll};
-ghost use Rattle.journal.specs.Stands.{startStand, ranOf, listAt, Stands, Due, AllCommit, Commits};
+ghost use Rattle.journal.specs.Stands.{startStand, ranOf, listAt, Stands, Due, AllCommit, Posts, Commits};
 use book::Asked;
+use book::Decision;
 use book::Outcome;
 use book::Request;
 use book::TotalAnswer;
@@ -236,7 +239,7 @@ fn reply(answers: &mut [u64], i: usize, number: u64, line: u64, posted: u64, pla
 
 // Where the takes, releases and moves from call `from` on end, at n at the latest.
 fn commits_end(calls: &[u64], from: usize, n: usize) -> usize
-    ensures { λ r. ⌜ (from ≤ n → (from ≤ r) × (r ≤ n)) × AllCommit (now (calls .entry)) from r ⌝ }
+    ensures { λ r. ⌜ (from ≤ n → (from ≤ r) × (r ≤ n)) × AllCommit (now (calls .entry)) from r × (r < n → Posts (now (calls .entry)) r) ⌝ }
 {
     let mut i = from;
     while i < n {
@@ -292,13 +295,32 @@ fn committed(sheet: Sheet, calls: &[u64], answers: &mut [u64], end: usize, stand
 fn commitments(sheet: Sheet, calls: &[u64], answers: &mut [u64], n: usize, stand: Stand) -> Stand
     requires { ⌜ stand .next ≤ n ⌝ }
     ensures { λ r. ⌜ Commits sheet (now (calls .entry)) (now (answers .entry)) (now (answers .exit)) stand r ⌝ }
-    ensures { λ r. ⌜ (stand .next ≤ r .next) × (r .next ≤ n) ⌝ }
+    ensures { λ r. ⌜ (stand .next ≤ r .next) × (r .next ≤ n) × (r .next < n → Posts (now (calls .entry)) (r .next)) ⌝ }
 {
     let end = commits_end(calls, stand.next, n);
     if end <= stand.next {
         return stand;
     }
     committed(sheet, calls, answers, end, stand)
+}
+
+// What a settle, restate or void comes to, where the list is known to be in its ranges: decided by what the sheet and the book have of its hour.
+fn decided_at(
+    sheet: Sheet,
+    holds: bool,
+    book: Book,
+    request: Request,
+    count: u64,
+    places: usize,
+) -> Decision
+    requires { ⌜ Known sheet holds book count places × WellRead sheet request × ((leb 1 (request .kind) && leb (request .kind) 3) ≡ false) ⌝ }
+    ensures { λ r. ⌜ r ≡ decided sheet book request count places true ⌝ }
+{
+    let h = book::posting_place(request);
+    let day = settlement::hour_sheet(sheet, h as u64 + 1);
+    let entry = state::hour_entry(book, h);
+    let d = book::decide_known(holds, day, entry, request, count, places);
+    book::applied(book, h, sheet.units, count, d)
 }
 
 // The takes, releases and moves from the next call on, and the call after them, if one is left. What that one posts is not appended yet.
@@ -328,7 +350,7 @@ fn go_on(
     }
     let book = before.book;
     let request = book::request_at(sheet, calls, text, i);
-    let d = book::decide_known(sheet, before.holds, book, request, before.count, places);
+    let d = decided_at(sheet, before.holds, book, request, before.count, places);
     let answer = d.answer;
     reply(
         answers,

@@ -5,7 +5,7 @@ use mathlib.Core.Bool.{Bool, true, false, _&&_}
 use mathlib.Core.List.{List}
 use Prim.Native.Nat.{ℕ, _-_, _+_, _≤_}
 use native.Mathlib.Omega.{arith}
-use borrow.Author.Tests.{not-false, eqb-true, eqb-false}
+use borrow.Author.Tests.{not-true, not-false, eqb-true, eqb-false}
 use lib.Dec.{leb, eqb}
 use Rattle.book.specs.declared.Asked.{Asked}
 use Rattle.book.specs.Requests.{askedAt}
@@ -40,7 +40,13 @@ commits-requires : tie.Need-commits-requires Inv-loop μ-loop
 commits-requires c κs = search needs
 
 returns : tie.Need-returns Inv-loop μ-loop
-returns c = let l = c .before .before .before .before .loop in ((λ h. (l .inv .0, l .inv .1 h)), l .inv .2)
+returns c =
+    let l = c .before .before .before .before .loop in (
+      (λ h. (l .inv .0, l .inv .1 h)),
+      l .inv .2,
+      λ _. ap (λ (x : Asked). leb 1 (x .kind) && leb (x .kind) 3) (sym (c .before .before .asked-at .ensures))
+          ∙ (sym (c .before .commits .ensures) ∙ not-true (c .before .commits .result) (c .if1 .taken)),
+    )
 
 add-i : tie.Need-add-i Inv-loop μ-loop
 add-i c = search needs
@@ -59,7 +65,7 @@ loop-again c =
     )
 
 returns-2 : tie.Need-returns-2 Inv-loop μ-loop
-returns-2 c = let l = c .before .loop in ((λ h. (l .inv .0, l .inv .1 h)), l .inv .2)
+returns-2 c = let l = c .before .loop in ((λ h. (l .inv .0, l .inv .1 h)), l .inv .2, λ h. absurd (omega (arith, h)))
 
 pub commits-end-spec : {M : Type 1} → statement M
 commits-end-spec =

@@ -1,14 +1,16 @@
 -- The takes, releases and moves leave the list of places as it is; the call after them posts what its decision says.
 -- Assumes nothing.
-use mathlib.Core.Path.{ap, sym, _∙_, subst}
-use mathlib.Core.Bool.{true}
+use mathlib.Core.Path.{_≡_, ap, sym, _∙_, subst}
+use mathlib.Core.Bool.{true, false, _&&_}
 use Prim.Native.Nat.{ℕ, _-_, _≤_}
 use native.Mathlib.Omega.{arith}
+use lib.Dec.{leb}
 use Rattle.book.specs.declared.Request.{Request}
 use Rattle.book.specs.declared.Decision.{Decision}
 use Rattle.book.specs.Sound.{Known, WellRead}
 use Rattle.book.specs.Calls.{decided}
 use Rattle.book.specs.Requests.{requestAt}
+use Rattle.book.proofs.Numbered.{posts-at}
 use Rattle.book.proofs.Well.{at-well}
 use Rattle.book.proofs.Places.{decided-fits}
 use Rattle.journal.specs.Journal.{posted}
@@ -42,14 +44,17 @@ returns c =
 request-at-requires : tie.Need-request-at-requires
 request-at-requires c κs = search needs
 
-decide-known-requires : tie.Need-decide-known-requires
-decide-known-requires c κs =
+decided-at-requires : tie.Need-decided-at-requires
+decided-at-requires c κs =
     let a = c .before .before .before .before .before .before .before .before .before .before .args in
     let p = c .before .before .before .before .before .before .before .before .before .before .pre in
     let b = c .before .before .before .before .before .commitments .result in
     let s = c .before .before .before .before .before .commitments .ensures .0 (a .text .now) (p .journal) (p .first) (p .stands) .0 in (
       subst (λ (n : ℕ). Known (a .sheet) (b .holds) (b .book) (b .count) n) (p .long) (known-at (a .sheet) (a .calls .now) (a .text .now) (p .journal) (p .first) _ b s),
       subst (λ (q : Request). WellRead (a .sheet) q) (sym (c .request-at .ensures)) (at-well (a .sheet) (a .calls .now) (a .text .now) (b .next)),
+      subst (λ (q : Request). (leb 1 (q .kind) && leb (q .kind) 3) ≡ false) (sym (c .request-at .ensures))
+          (posts-at (a .sheet) (a .calls .now) (a .text .now) (b .next)
+          (c .before .before .before .before .before .commitments .ensures .1 .2 (omega (arith, c .before .before .if1 .left)))),
     )
 
 number-of-requires : tie.Need-number-of-requires
@@ -76,9 +81,9 @@ returns-2 c =
     let p = c .before .before .before .before .before .before .before .before .before .before .before .before .before .before .before .before .before .before .before .before .pre in
     let b = c .before .before .before .before .before .before .before .before .before .before .before .before .before .before .before .commitments .result in
     let k = c .before .before .before .before .before .before .before .before .before .before .before .before .before .before .before .commitments .ensures in
-    let d = c .before .before .before .before .before .before .before .before .before .decide-known .result in
+    let d = c .before .before .before .before .before .before .before .before .before .decided-at .result in
     let asked = ap (λ (q : Request). decided (a .sheet) (b .book) q (b .count) (a .places) true) (c .before .before .before .before .before .before .before .before .before .before .request-at .ensures) in
-    let is = c .before .before .before .before .before .before .before .before .before .decide-known .ensures ∙ asked in
+    let is = c .before .before .before .before .before .before .before .before .before .decided-at .ensures ∙ asked in
     let fits = decided-fits (a .sheet) (b .book) (requestAt (a .sheet) (a .calls .now) (a .text .now) (b .next)) (b .count) (a .places) true in (
       (λ journal first long s.
           let t = k .0 (a .text .now) journal first s in
@@ -102,7 +107,7 @@ go-on-spec =
     same-length
     returns
     request-at-requires
-    decide-known-requires
+    decided-at-requires
     number-of-requires
     line-of-requires
     posted-of-requires
