@@ -1,43 +1,37 @@
--- A line that is stored is there to be read, and the lines stored before it are as they were: its 25 cells lie behind theirs.
+-- A line that is read into its own 25 cells is there to be read, and the cells before and behind them are as they were.
 -- Assumes nothing.
 use mathlib.Core.Path.{_≡_, refl, ap, sym, _∙_}
-use mathlib.Core.Bool.{cond}
 use mathlib.Core.List.{List, [], _∷_, _++_}
-use Prim.Native.Nat.{ℕ, suc, _+_, _*_, _≤_, _<_, min}
-use native.Mathlib.Decide.{decLe}
+use Prim.Native.Nat.{ℕ, suc, _+_, _*_, _-_, _≤_, _<_, min}
 use native.Mathlib.Omega.{arith}
-use borrow.Author.Tests.{le-ltb, lt-ltb}
-use lib.ListN.{length, getD, take, drop, set, length-set, length-append, length-take, length-drop, List·getD-append}
-use lib.Seq.{paste, length-paste, length-take-le, take-all, getD-take, getD-drop, getD-set-same, getD-set-other, drop-set-lt, drop-append-le, drop-at, take-at, getD-at, ext-getD}
+use lib.ListN.{length, getD, take, drop, set, replicate, length-append, length-take, length-drop, length-replicate, getD-replicate, List·getD-append, List·getD-eq-default}
+use lib.Seq.{length-take-le, getD-take, getD-drop, getD-set-same, getD-set-other, drop-set-lt, drop-at, take-at, getD-at, ext-getD}
+use native.Mathlib.Decide.{decLe}
+use borrow.Rule.Slice.PartMut.{putMid, postOf, same-len-mid, mid-len, take-put, drop-put}
 use Rattle.text.specs.declared.Line.{Line}
-use Rattle.text.specs.Rows.{noLine}
+use Rattle.text.specs.declared.Head.{Head}
+use Rattle.text.specs.Rows.{noLine, Held}
+use Rattle.text.proofs.Heads.{held-line}
 use Rattle.finite.proofs.Sums.{extend}
 use Rattle.lines.specs.Lines.{lineOf}
-use Rattle.lines.specs.Cells.{lineIn, withLine, Kept}
+use Rattle.lines.specs.Cells.{lineIn, Blank, Placed, Kept}
+
+-- where every cell is 0, nothing is stored
+pub zeros-blank : (n : ℕ) → Blank (replicate n 0) 0
+zeros-blank n j h = by (decLe (suc j) n)
+  where
+    zeros : List ℕ
+    zeros = replicate n 0
+
+    by : Dec (j < n) → getD zeros j 0 ≡ 0
+    by (yes l) = getD-replicate n j 0 0 l
+    by (no l) = List·getD-eq-default zeros 0 (omega (arith, length-replicate {A = ℕ} n 0))
 
 line-same : (l m : Line) → l .code ≡ m .code → l .count ≡ m .count → l .number ≡ m .number → l ≡ m
 line-same l m a b c =
     ap {B = Line} (λ (x : ℕ). record { code = x; count = l .count; number = l .number }) a
     ∙ ap {B = Line} (λ (x : ℕ). record { code = m .code; count = x; number = l .number }) b
     ∙ ap {B = Line} (λ (x : List ℕ). record { code = m .code; count = m .count; number = x }) c
-
--- places before the part that is replaced, and the part itself
-module _ (d : List ℕ) (at : ℕ) (s : List ℕ) (n : ℕ) (h : at ≤ length d) where
-  paste-before : (q : ℕ) → q < at → getD (paste d at s n) q 0 ≡ getD d q 0
-  paste-before q l =
-      let e : length (take at d) ≡ at = length-take-le at d h in
-      let f : length (take at d ++ take n s) ≡ length (take at d) + length (take n s) = length-append (take at d) (take n s) in
-      List·getD-append (take at d ++ take n s) (drop (at + n) d) 0 q (omega arith)
-      ∙ List·getD-append (take at d) (take n s) 0 q (omega arith)
-      ∙ getD-take at d q 0 l
-
-  paste-part : n ≤ length s → take n (drop at (paste d at s n)) ≡ take n s
-  paste-part k =
-      let e : length (take at d) ≡ at = length-take-le at d h in
-      let f : length (take at d ++ take n s) ≡ length (take at d) + length (take n s) = length-append (take at d) (take n s) in
-      ap (take n) (drop-append-le at (take at d ++ take n s) (drop (at + n) d) (omega arith)
-      ∙ ap (λ (l : List ℕ). l ++ drop (at + n) d) (drop-at (take at d) (take n s) at e))
-      ∙ take-at (take n s) (drop (at + n) d) n (length-take-le n s k)
 
 part-same : (a b : List ℕ) (p : ℕ) → length a ≡ length b → ((i : ℕ) → i < 24 → getD a (p + i) 0 ≡ getD b (p + i) 0)
     → take 24 (drop p a) ≡ take 24 (drop p b)
@@ -48,76 +42,93 @@ part-same a b p e f =
     each : (i : ℕ) → i < 24 → getD (take 24 (drop p a)) i 0 ≡ getD (take 24 (drop p b)) i 0
     each i l = (getD-take 24 (drop p a) i 0 l ∙ getD-drop p a i 0) ∙ (f i l ∙ sym (getD-take 24 (drop p b) i 0 l ∙ getD-drop p b i 0))
 
-module _ (cells : List ℕ) (k count : ℕ) (number : List ℕ) (long : length number ≡ 24) where
-  pub no-room : length cells < 25 * k + 25 → withLine cells k count number ≡ cells
-  unfolding withLine
-  no-room h = simp (lt-ltb _ _ h)
+-- the part from a up to e, put in the place of what was there
+module _ (a e : ℕ) (old part : List ℕ) (ends : a ≤ e) (room : e ≤ length old) (long : length part ≡ e - a) where
+  put-before : (j : ℕ) → j < a → getD (putMid a (e - a) old part) j 0 ≡ getD old j 0
+  put-before j h =
+      sym (getD-take a (putMid a (e - a) old part) j 0 h)
+      ∙ (ap (λ (l : List ℕ). getD l j 0) (take-put a (e - a) old part (omega arith)) ∙ getD-take a old j 0 h)
 
-  module _ (room : 25 * k + 25 ≤ length cells) where
-    pasted : List ℕ
-    pasted = paste cells (25 * k + 1) number 24
+  put-behind : (j : ℕ) → e ≤ j → getD (putMid a (e - a) old part) j 0 ≡ getD old j 0
+  put-behind j h =
+      let is : j ≡ e + (j - e) = omega arith in
+      ap (λ (n : ℕ). getD (putMid a (e - a) old part) n 0) is
+      ∙ (sym (getD-drop e (putMid a (e - a) old part) (j - e) 0)
+      ∙ (ap (λ (l : List ℕ). getD l (j - e) 0) (drop-put a e old part ends room long)
+      ∙ (getD-drop e old (j - e) 0 ∙ ap (λ (n : ℕ). getD old n 0) (sym is))))
 
-    stored : withLine cells k count number ≡ set pasted (25 * k) count
-    unfolding withLine pasted
-    stored = simp (le-ltb _ _ room)
+  put-part : (n : ℕ) → length part ≡ n → take n (drop a (putMid a (e - a) old part)) ≡ part
+  put-part n l =
+      ap (take n) (drop-at (take a old) (part ++ postOf a (e - a) old) a (length-take-le a old (omega arith)))
+      ∙ take-at part (postOf a (e - a) old) n l
 
-    pasted-length : length pasted ≡ length cells
-    unfolding pasted
-    pasted-length = length-paste cells (25 * k + 1) number 24 (omega arith) (omega arith)
+  put-length : length (putMid a (e - a) old part) ≡ length old
+  put-length = same-len-mid a (e - a) old part (long ∙ sym (mid-len a e old room))
 
-    -- the line stored
-    pub stored-line : _≡_ {A = Line} (record { code = 0; count = count; number = number }) (lineIn (withLine cells k count number) k)
-    unfolding pasted
-    stored-line =
-        let c : count ≡ getD (withLine cells k count number) (25 * k) 0 =
-        sym (ap (λ (x : List ℕ). getD x (25 * k) 0) stored ∙ getD-set-same pasted (25 * k) count 0 (omega (arith, pasted-length))) in
-        let n : number ≡ take 24 (drop (25 * k + 1) (withLine cells k count number)) =
-        sym (ap (λ (x : List ℕ). take 24 (drop (25 * k + 1) x)) stored
-        ∙ (ap (take 24) (drop-set-lt (25 * k + 1) pasted (25 * k) count (omega arith))
-        ∙ (paste-part cells (25 * k + 1) number 24 (omega arith) (omega arith) ∙ take-all 24 number (omega arith)))) in
-        line-same (record { code = 0; count = count; number = number }) (lineIn (withLine cells k count number) k) refl c n
-
-    -- a cell before it
-    before : (q : ℕ) → q < 25 * k → getD (withLine cells k count number) q 0 ≡ getD cells q 0
-    unfolding pasted
-    before q h =
-        ap (λ (x : List ℕ). getD x q 0) stored
-        ∙ (getD-set-other pasted (25 * k) q count 0 (λ e. omega arith)
-        ∙ paste-before cells (25 * k + 1) number 24 (omega arith) q (omega arith))
-
-    same-length : length (withLine cells k count number) ≡ length cells
-    same-length = ap length stored ∙ (length-set pasted (25 * k) count ∙ pasted-length)
-
-  -- where there is room and where there is none
-  either : {P : Type 0} → (length cells < 25 * k + 25 → P) → (25 * k + 25 ≤ length cells → P) → P
-  either {P} f g = by (decLe (25 * k + 25) (length cells))
+-- line k in its cells
+module _ (cells : List ℕ) (k : ℕ) (room : 25 * k + 25 ≤ length cells) where
+  pub blank-part : Blank cells k → take (25 * k + 1 + 24 - (25 * k + 1)) (drop (25 * k + 1) cells) ≡ replicate 24 0
+  blank-part blank =
+      let n : 25 * k + 1 + 24 - (25 * k + 1) ≡ 24 = omega arith in
+      rw n (ext-getD 0 (take 24 (drop (25 * k + 1) cells)) (replicate 24 0) long (λ i h. each i (omega (arith, long))))
     where
-      by : Dec (25 * k + 25 ≤ length cells) → P
-      by (yes h) = g h
-      by (no h) = f (omega arith)
+      long : length (take 24 (drop (25 * k + 1) cells)) ≡ 24
+      long = length-take-le 24 (drop (25 * k + 1) cells) (omega (arith, length-drop (25 * k + 1) cells))
 
-  pub stored-length : length (withLine cells k count number) ≡ length cells
-  stored-length = either (λ h. ap length (no-room h)) same-length
+      each : (i : ℕ) → i < 24 → getD (take 24 (drop (25 * k + 1) cells)) i 0 ≡ getD (replicate 24 0) i 0
+      each i l =
+          getD-take 24 (drop (25 * k + 1) cells) i 0 l
+          ∙ (getD-drop (25 * k + 1) cells i 0 ∙ (blank (25 * k + 1 + i) (omega arith) ∙ sym (getD-replicate 24 i 0 0 l)))
 
-  -- the lines before it
-  pub earlier-line : (j : ℕ) → j < k → lineIn (withLine cells k count number) j ≡ lineIn cells j
+  module _ (h : Head) (number : List ℕ) (l : Line) (held : Held h number l) (long : length number ≡ 24) where
+    part : List ℕ
+    part = putMid (25 * k + 1) (25 * k + 1 + 24 - (25 * k + 1)) cells number
+
+    long-too : length number ≡ 25 * k + 1 + 24 - (25 * k + 1)
+    long-too = omega arith
+
+    part-length : length part ≡ length cells
+    unfolding part
+    part-length = put-length (25 * k + 1) (25 * k + 1 + 24) cells number (omega arith) (omega arith) long-too
+
+    pub placed : Placed cells (set (putMid (25 * k + 1) (25 * k + 1 + 24 - (25 * k + 1)) cells number) (25 * k) (h .count)) k (h .code) l
+    unfolding part
+    placed =
+        record {
+          code-is = held .code-is;
+          before = λ j b.
+              getD-set-other part (25 * k) j (h .count) 0 (λ e. omega arith)
+              ∙ put-before (25 * k + 1) (25 * k + 1 + 24) cells number (omega arith) (omega arith) long-too j (omega arith);
+          behind = λ j b.
+              getD-set-other part (25 * k) j (h .count) 0 (λ e. omega arith)
+              ∙ put-behind (25 * k + 1) (25 * k + 1 + 24) cells number (omega arith) (omega arith) long-too j (omega arith);
+          line-is = λ z r.
+              sym (held-line h number l held (held .code-is ∙ z))
+              ∙ line-same (record { code = 0; count = h .count; number = number }) (lineIn (set part (25 * k) (h .count)) k) refl
+              (sym (getD-set-same part (25 * k) (h .count) 0 (omega (arith, part-length))))
+              (sym (ap (take 24) (drop-set-lt (25 * k + 1) part (25 * k) (h .count) (omega arith))
+              ∙ put-part (25 * k + 1) (25 * k + 1 + 24) cells number (omega arith) (omega arith) long-too 24 long));
+        }
+
+-- what is kept once line k is read
+module _ (old new : List ℕ) (k code : ℕ) (l : Line) (p : Placed old new k code l) (same : length new ≡ length old) where
+  earlier-line : (j : ℕ) → j < k → lineIn old j ≡ lineIn new j
   earlier-line j h =
-      either (λ n. ap (λ (x : List ℕ). lineIn x j) (no-room n))
-      (λ room. line-same (lineIn (withLine cells k count number) j) (lineIn cells j) refl (before room (25 * j) (omega arith))
-      (part-same (withLine cells k count number) cells (25 * j + 1) stored-length (λ i b. before room (25 * j + 1 + i) (omega arith))))
+      line-same (lineIn old j) (lineIn new j) refl (sym (p .before (25 * j) (omega arith)))
+      (part-same old new (25 * j + 1) (sym same) (λ i b. sym (p .before (25 * j + 1 + i) (omega arith))))
 
--- one line more is kept
-pub kept-next : (cells : List ℕ) (lines : List Line) (l : Line) → length (l .number) ≡ 24 → l .code ≡ 0 → Kept cells lines
-    → Kept (withLine cells (length lines) (l .count) (l .number)) (lines ++ (l ∷ []))
-kept-next cells lines l long good kept k h room = rest k (omega (arith, length-append lines (l ∷ []))) (omega (arith, stored-length cells (length lines) (l .count) (l .number) long))
-  where
-    new : List ℕ
-    new = withLine cells (length lines) (l .count) (l .number)
+  pub blank-next : Blank old k → Blank new (k + 1)
+  blank-next blank j h = p .behind j (omega arith) ∙ blank j (omega arith)
 
-    rest : (k : ℕ) → k < suc (length lines) → 25 * k + 25 ≤ length cells → lineOf (lines ++ (l ∷ [])) k ≡ lineIn new k
-    rest =
-        extend (λ k. 25 * k + 25 ≤ length cells → lineOf (lines ++ (l ∷ [])) k ≡ lineIn new k) (length lines)
-        (λ k h room. List·getD-append lines (l ∷ []) (noLine 0) k h ∙ (kept k h room ∙ sym (earlier-line cells (length lines) (l .count) (l .number) long k h)))
-        (λ room. getD-at lines l [] (noLine 0) (length lines) refl
-        ∙ (ap {B = Line} (λ (x : ℕ). record { code = x; count = l .count; number = l .number }) good
-        ∙ stored-line cells (length lines) (l .count) (l .number) long room))
+  module _ (lines : List Line) (count : k ≡ length lines) (kept : Kept old lines) where
+    pub kept-same : Kept new lines
+    kept-same j h room = kept j h (omega arith) ∙ earlier-line j (omega arith)
+
+    pub kept-next : l .code ≡ 0 → Kept new (lines ++ (l ∷ []))
+    kept-next good j h room = rest j (omega (arith, length-append lines (l ∷ []))) (omega arith)
+      where
+        rest : (j : ℕ) → j < suc (length lines) → 25 * j + 25 ≤ length new → lineOf (lines ++ (l ∷ [])) j ≡ lineIn new j
+        rest =
+            extend (λ j. 25 * j + 25 ≤ length new → lineOf (lines ++ (l ∷ [])) j ≡ lineIn new j) (length lines)
+            (λ j h room. List·getD-append lines (l ∷ []) (noLine 0) j h ∙ kept-same j h room)
+            (λ room. getD-at lines l [] (noLine 0) (length lines) refl ∙ (p .line-is good (omega arith) ∙ ap (lineIn new) count))

@@ -1,11 +1,8 @@
 -- How the lines read are kept in a lent list of numbers: 25 cells for each line, first how many numbers it has, then the 24 numbers.
 use mathlib.Core.Path.{_≡_}
 use Prim.Native.Nat.{ℕ, _+_, _*_, _≤_, _<_}
-use mathlib.Core.Bool.{cond}
 use mathlib.Core.List.{List}
-use lib.Dec.{ltb}
-use lib.ListN.{length, getD, take, drop, set}
-use lib.Seq.{paste}
+use lib.ListN.{length, getD, take, drop}
 use Rattle.text.specs.declared.Line.{Line}
 use Rattle.lines.specs.declared.Cursor.{Cursor}
 use Rattle.lines.specs.Lines.{Reading, lineOf}
@@ -14,10 +11,16 @@ use Rattle.lines.specs.Lines.{Reading, lineOf}
 abbrev pub lineIn : List ℕ → ℕ → Line
 lineIn cells k = record { code = 0; count = getD cells (25 * k) 0; number = take 24 (drop (25 * k + 1) cells) }
 
--- the cells with the numbers of line k stored, or as they were where they have no room for it
-unfoldable pub withLine : List ℕ → ℕ → ℕ → List ℕ → List ℕ
-withLine cells k count number =
-    cond (ltb (length cells) (25 * k + 25)) cells (set (paste cells (25 * k + 1) number 24) (25 * k) count)
+-- nothing is stored yet from line k on
+abbrev pub Blank : List ℕ → ℕ → Type 0
+Blank cells k = (j : ℕ) → 25 * k ≤ j → getD cells j 0 ≡ 0
+
+-- line k is read into its cells, where there is room for it; the cells of the other lines are as they were
+pub record Placed (old new : List ℕ) (k code : ℕ) (l : Line) : Type 0 where
+  pub code-is : code ≡ l .code
+  pub before : (j : ℕ) → j < 25 * k → getD new j 0 ≡ getD old j 0
+  pub behind : (j : ℕ) → 25 * k + 25 ≤ j → getD new j 0 ≡ getD old j 0
+  pub line-is : l .code ≡ 0 → 25 * k + 25 ≤ length old → l ≡ lineIn new k
 
 -- the cells hold the lines, as far as they have room
 abbrev pub Kept : List ℕ → List Line → Type 0

@@ -5,7 +5,7 @@ ghost use Prim.Native.Nat.{_+_, _^_, _≤_, _<_};
 ghost use lib.ListN.{length, getD, replicate};
 ghost use Rattle.text.specs.Rows.{Held};
 ghost use Rattle.lines.specs.Lines.{Reading, lineBy, readLine};
-ghost use Rattle.lines.specs.Cells.{lineIn, withLine, Shows};
+ghost use Rattle.lines.specs.Cells.{lineIn, Blank, Placed, Shows};
 ghost use Rattle.lines.specs.Refusals.{textNumber, textLine, textRefusal, badStart, answerOf};
 use text::Head;
 use text::Row;
@@ -107,22 +107,30 @@ fn line_into(line: &[u8], row: Row, number: &mut [u64]) -> Head
     Head { code: 1, count: 0 }
 }
 
-// Stores the numbers of line k, where there is room for them.
-fn keep(cells: &mut [u64], k: usize, count: usize, number: &[u64])
-    requires { ⌜ (k < 2 ^ 32) × (length (now number) ≡ 24) ⌝ }
-    ensures { λ r. ⌜ now (cells .exit) ≡ withLine (now (cells .entry)) k count (now (number .entry)) ⌝ }
+// The code of a line whose numbers are kept nowhere.
+fn line_code(line: &[u8], row: Row) -> u64
+    ensures { λ r. ⌜ r ≡ lineBy (now (line .entry)) row .code ⌝ }
+{
+    let mut number = [0u64; 24];
+    let h = line_into(line, row, &mut number);
+    h.code
+}
+
+// Line k without its LF, by its row, read into its own cells where there is room for them. The result is the line's code.
+fn line_kept(line: &[u8], row: Row, k: usize, cells: &mut [u64]) -> u64
+    requires { ⌜ k < 2 ^ 32 ⌝ }
+    requires { ⌜ Blank (now cells) k ⌝ }
+    ensures { λ r. ⌜ Placed (now (cells .entry)) (now (cells .exit)) k r (lineBy (now (line .entry)) row) ⌝ }
 {
     let at = 25 * k;
-    if cells.len() < at + 25 {
-        return;
-    }
     let first = at + 1;
-    let mut i: usize = 0;
-    while i < 24 {
-        cells[first + i] = number[i];
-        i += 1;
+    let last = first + 24;
+    if cells.len() < last {
+        return line_code(line, row);
     }
-    cells[at] = count as u64;
+    let h = line_into(line, row, &mut cells[first..last]);
+    cells[at] = h.count as u64;
+    h.code
 }
 
 // How many numbers line k has.
@@ -162,8 +170,10 @@ pub fn start() -> Cursor
 // The line due, by its row; nothing where the text is refused already.
 pub fn read_line(text: &[u8], row: Row, c: Cursor, cells: &mut [u64]) -> Cursor
     requires { ⌜ c .lines < 2 ^ 32 ⌝ }
+    requires { ⌜ (c .refusal ≡ 0 → Blank (now cells) (c .lines)) ⌝ }
     ensures { λ r. ⌜ ((s : Reading) → Shows (now (cells .entry)) c s → Shows (now (cells .exit)) r (readLine (now (text .entry)) row s)) ⌝ }
     ensures { λ r. ⌜ r .lines ≤ c .lines + 1 ⌝ }
+    ensures { λ r. ⌜ (r .refusal ≡ 0 → Blank (now (cells .exit)) (r .lines)) ⌝ }
 {
     if c.refusal != 0 {
         return c;
@@ -178,16 +188,14 @@ pub fn read_line(text: &[u8], row: Row, c: Cursor, cells: &mut [u64]) -> Cursor
             lines: k,
         };
     }
-    let mut number = [0u64; 24];
-    let h = line_into(&text[at..e], row, &mut number);
-    if h.code != 0 {
+    let code = line_kept(&text[at..e], row, k, cells);
+    if code != 0 {
         return Cursor {
-            refusal: h.code,
+            refusal: code,
             at: at,
             lines: k,
         };
     }
-    keep(cells, k, h.count, &number);
     Cursor {
         refusal: 0,
         at: e + 1,

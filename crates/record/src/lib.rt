@@ -4,7 +4,7 @@ ghost use Prim.Native.Nat.{_^_, _≤_, _<_};
 ghost use lib.ListN.{getD};
 ghost use lib.Dec.{eqb};
 ghost use Rattle.finite.specs.Finite.{tabulate};
-ghost use Rattle.lines.specs.Cells.{lineIn, Shows};
+ghost use Rattle.lines.specs.Cells.{lineIn, Blank, Shows};
 ghost use Rattle.record.specs.Rows.{headRows, unitRows, spansRow, endRow, rowAt, readLines};
 ghost use Rattle.record.specs.Hour.{noSpan, noUnit, noRecord, valueOr, spanBy, spansBy, unitBy, placeBy, recordBy, readRecord};
 ghost use Rattle.record.specs.Spans.{countedKind, minutesOf, minutesHold};
@@ -135,6 +135,7 @@ fn row_at(n: usize, k: usize) -> Row
 // The lines of a record that begins where the text does, in a plant of n units.
 fn read_lines(text: &[u8], n: usize, cells: &mut [u64]) -> Cursor
     requires { ⌜ n ≤ 64 ⌝ }
+    requires { ⌜ Blank (now cells) 0 ⌝ }
     ensures { λ r. ⌜ Shows (now (cells .exit)) r (readLines (now (text .entry)) n) ⌝ }
     ensures { λ r. ⌜ r .lines < 10000 ⌝ }
 {

@@ -7,7 +7,7 @@ ghost use lib.Count.{ones};
 ghost use Rattle.offer.specs.Offer.{offerHolds};
 ghost use Rattle.finite.specs.Finite.{every};
 ghost use Rattle.lines.specs.Lines.{Reading, readBy};
-ghost use Rattle.lines.specs.Cells.{lineIn, Shows};
+ghost use Rattle.lines.specs.Cells.{lineIn, Blank, Shows};
 ghost use Rattle.sheet.specs.Limits.{lastDay};
 ghost use Rattle.sheet.specs.Rows.{headRows, unitRows, offerRow, endRow, rowAt, dueRow, readLines};
 ghost use Rattle.sheet.specs.Day.{noUnit, noSheet, offerBy, unitBy, placeBy, sheetBy, readSheet};
@@ -152,8 +152,10 @@ fn units_read(cells: &[u64]) -> usize
 // n lines more, each by the row that is due.
 fn read_more(text: &[u8], n: usize, c: Cursor, cells: &mut [u64]) -> Cursor
     requires { ⌜ (n < 10000) × (c .lines < 10000) × (750 ≤ length (now cells)) ⌝ }
+    requires { ⌜ (c .refusal ≡ 0 → Blank (now cells) (c .lines)) ⌝ }
     ensures { λ r. ⌜ ((s : Reading) → Shows (now (cells .entry)) c s → Shows (now (cells .exit)) r (readBy (now (text .entry)) dueRow n s)) ⌝ }
     ensures { λ r. ⌜ r .lines ≤ c .lines + n ⌝ }
+    ensures { λ r. ⌜ (r .refusal ≡ 0 → Blank (now (cells .exit)) (r .lines)) ⌝ }
 {
     let mut d = c;
     let mut i: usize = 0;
@@ -168,6 +170,7 @@ fn read_more(text: &[u8], n: usize, c: Cursor, cells: &mut [u64]) -> Cursor
 // The lines of a sheet that begins where the text does.
 fn read_lines(text: &[u8], cells: &mut [u64]) -> Cursor
     requires { ⌜ 750 ≤ length (now cells) ⌝ }
+    requires { ⌜ Blank (now cells) 0 ⌝ }
     ensures { λ r. ⌜ Shows (now (cells .exit)) r (readLines (now (text .entry))) ⌝ }
     ensures { λ r. ⌜ r .lines < 10000 ⌝ }
 {

@@ -7,7 +7,7 @@ use lib.ListN.{length}
 use Rattle.text.specs.declared.Row.{Row}
 use Rattle.lines.specs.declared.Cursor.{Cursor}
 use Rattle.lines.specs.Lines.{begin, readLine, readBy}
-use Rattle.lines.specs.Cells.{Shows}
+use Rattle.lines.specs.Cells.{Blank, Shows}
 use Rattle.lines.proofs.Due.{by-next}
 use Rattle.record.specs.Rows.{rowAt, dueRow, readLines}
 use Rattle.record.proofs.Facts.{nothing-read}
@@ -21,6 +21,7 @@ Inv-loop text n cells₀ due c₀ i₀ cells c i =
     × (c .lines ≤ i)
     × (length cells ≡ length cells₀)
     × Shows cells c (readBy text (dueRow n) i begin)
+    × (c .refusal ≡ 0 → Blank cells (c .lines))
 
 abbrev μ-loop : tie.MeasureT-loop
 μ-loop text n cells₀ due c₀ i₀ cells c i = due - i
@@ -39,13 +40,22 @@ start-requires c κs = search needs
 
 loop-holds : tie.Need-loop-holds Inv-loop μ-loop
 unfolding readBy
-loop-holds c = (omega arith, omega (arith, ap (λ (x : Cursor). x .lines) (c .start .ensures)), refl, nothing-read (c .before .before .before .args .cells .now) (c .start .result) (c .start .ensures))
+loop-holds c =
+    let none = ap (λ (x : Cursor). x .lines) (c .start .ensures) in (
+      omega arith,
+      omega (arith, none),
+      refl,
+      nothing-read (c .before .before .before .args .cells .now) (c .start .result) (c .start .ensures),
+      λ z. rw none (c .before .before .before .pre .1),
+    )
 
 row-at-requires : tie.Need-row-at-requires Inv-loop μ-loop
 row-at-requires c κs = search needs
 
 read-line-requires : tie.Need-read-line-requires Inv-loop μ-loop
-read-line-requires c κs = omega (arith, c .before .before .before .loop .inv, c .before .before .loop-test .taken, c .before .before .before .before .before .before .before .pre)
+read-line-requires c κs =
+    let l = c .before .before .before .loop in
+    (omega (arith, l .inv .0, l .inv .1, c .before .before .loop-test .taken, c .before .before .before .before .before .before .before .pre .0), l .inv .4)
 
 add-i : tie.Need-add-i Inv-loop μ-loop
 add-i c = search needs
@@ -61,9 +71,10 @@ loop-again c =
     let t = readBy (g .text .now) (dueRow (g .n)) (l .i) begin in
     let row : c .before .before .before .before .row-at .result ≡ dueRow (g .n) (t .lines) = c .before .before .before .before .row-at .ensures ∙ ap (rowAt (g .n)) (l .inv .3 .lines-is) in (
       omega (arith, l .inv .0, c .before .before .before .before .before .loop-test .taken),
-      omega (arith, l .inv .1, r .ensures .1),
+      omega (arith, l .inv .1, r .ensures .1 .0),
       r .kept .1 .1 .1 .0 ∙ l .inv .2,
       rw by-next (subst (λ (x : Row). Shows (r .last .1 .1 .1 .0) (r .result) (readLine (g .text .now) x t)) row (r .ensures .0 t (l .inv .3))),
+      r .ensures .1 .1,
     )
 
 same-length : tie.Need-same-length Inv-loop μ-loop
@@ -75,7 +86,7 @@ returns c =
     let l = c .before .loop in
     let g = c .before .before .before .before .before .args in
     let all : l .i ≡ 3 + 9 * g .n + 1 = omega (arith, l .inv .0, c .loop-test .left) in
-    (subst (λ (n : ℕ). Shows (l .cells) (l .c) (readBy (g .text .now) (dueRow (g .n)) n begin)) all (l .inv .3), omega (arith, l .inv .1, c .before .before .before .before .before .pre))
+    (subst (λ (n : ℕ). Shows (l .cells) (l .c) (readBy (g .text .now) (dueRow (g .n)) n begin)) all (l .inv .3), omega (arith, l .inv .1, c .before .before .before .before .before .pre .0))
 
 pub read-lines-spec : {M : Type 1} → statement M
 read-lines-spec =

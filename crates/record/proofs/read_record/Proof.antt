@@ -11,6 +11,7 @@ use Rattle.text.proofs.Walk.{rest}
 use Rattle.lines.specs.declared.ReadAnswer.the-variants.{Refused}
 use Rattle.lines.specs.Cells.{Shows}
 use Rattle.lines.proofs.Reading.{start-within}
+use Rattle.lines.proofs.Storage.{zeros-blank}
 use Rattle.record.specs.Rows.{readLines}
 use Rattle.record.specs.Hour.{recordOf}
 use Rattle.record.proofs.Facts.{place-in}
@@ -72,7 +73,7 @@ slice-aggregate-read-lines : tie.Need-slice-aggregate-read-lines
 slice-aggregate-read-lines c = search needs
 
 read-lines-requires : tie.Need-read-lines-requires
-read-lines-requires c κs = omega (arith, c .before .before .unit-count .ensures, ones-le 64 (c .before .before .before .before .before .before .args .units) (c .before .before .before .before .before .before .fits .units .fits))
+read-lines-requires c κs = (omega (arith, c .before .before .unit-count .ensures, ones-le 64 (c .before .before .before .before .before .before .args .units) (c .before .before .before .before .before .before .fits .units .fits)), zeros-blank 2100)
 
 answer-of-requires : tie.Need-answer-of-requires
 answer-of-requires c κs = fit (c .before .before .before)

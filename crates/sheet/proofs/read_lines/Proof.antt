@@ -18,16 +18,19 @@ head : (c : tie.After-read-more) → Shows (c .read-more .last .1 .1 .1 .0) (c .
 head c = c .read-more .ensures .0 begin (nothing-read (c .before .before .before .before .before .args .cells .now) (c .before .before .start .result) (c .before .before .start .ensures))
 
 few : (c : tie.After-read-more) → c .read-more .result .lines ≤ 30
-few c = omega (arith, c .read-more .ensures .1, ap (λ (x : Cursor). x .lines) (c .before .before .start .ensures))
+few c = omega (arith, c .read-more .ensures .1 .0, ap (λ (x : Cursor). x .lines) (c .before .before .start .ensures))
 
 room : (c : tie.After-read-more) → 750 ≤ length (c .read-more .last .1 .1 .1 .0)
-room c = omega (arith, c .read-more .kept .1 .1 .1 .0, c .before .before .before .before .before .pre)
+room c = omega (arith, c .read-more .kept .1 .1 .1 .0, c .before .before .before .before .before .pre .0)
 
 start-requires : tie.Need-start-requires
 start-requires c κs = search needs
 
 read-more-requires : tie.Need-read-more-requires
-read-more-requires c κs = (omega arith, omega (arith, ap (λ (x : Cursor). x .lines) (c .before .start .ensures)), c .before .before .before .before .pre)
+read-more-requires c κs = (
+  (omega arith, omega (arith, ap (λ (x : Cursor). x .lines) (c .before .start .ensures)), c .before .before .before .before .pre .0),
+  λ z. rw (ap (λ (x : Cursor). x .lines) (c .before .start .ensures)) (c .before .before .before .before .pre .1),
+)
 
 same-length : tie.Need-same-length
 same-length c = search needs
@@ -46,7 +49,9 @@ add-read-more : tie.Need-add-read-more
 add-read-more c = search needs
 
 read-more-requires-2 : tie.Need-read-more-requires-2
-read-more-requires-2 c κs = (omega (arith, c .before .units-read .ensures .1), omega (arith, few (c .before .before .before .before .before .before .before)), room (c .before .before .before .before .before .before .before))
+read-more-requires-2 c κs =
+    let h = c .before .before .before .before .before .before .before in
+    ((omega (arith, c .before .units-read .ensures .1), omega (arith, few h), room h), h .read-more .ensures .1 .1)
 
 same-length-2 : tie.Need-same-length-2
 same-length-2 c = search needs
@@ -57,7 +62,7 @@ returns-2 c =
     let m = c .before .before .read-more2 in (
       head-good (c .before .before .before .before .before .before .before .before .before .before .before .before .before .before .before .args .text .now) (h .read-more .last .1 .1 .1 .0) (h .read-more .result) (head h) (c .before .before .before .before .before .before .if1 .left) (room h)
           (c .before .before .before .before .units-read .result) (c .before .before .before .before .units-read .ensures .0) (m .last .1 .1 .1 .0) (m .result) (m .ensures .0 _ (head h)),
-      omega (arith, m .ensures .1, few h, c .before .before .before .before .units-read .ensures .1),
+      omega (arith, m .ensures .1 .0, few h, c .before .before .before .before .units-read .ensures .1),
     )
 
 pub read-lines-spec : {M : Type 1} → statement M

@@ -8,7 +8,7 @@ use lib.ListN.{length}
 use lib.Count.{ones}
 use Rattle.text.specs.declared.Row.{Row}
 use Rattle.lines.specs.Lines.{Reading, readLine, readBy, numberOf}
-use Rattle.lines.specs.Cells.{lineIn, Shows}
+use Rattle.lines.specs.Cells.{lineIn, Blank, Shows}
 use Rattle.lines.proofs.Due.{by-next}
 use Rattle.sheet.specs.Rows.{rowAt, dueRow}
 use Rattle.sheet.proofs.Due.{row-due}
@@ -22,13 +22,14 @@ Inv-loop text n cells₀ d₀ i₀ cells d i =
     × (d .lines ≤ d₀ .lines + i)
     × (length cells ≡ length cells₀)
     × ((s : Reading) → Shows cells₀ d₀ s → Shows cells d (readBy text dueRow i s))
+    × (d .refusal ≡ 0 → Blank cells (d .lines))
 
 abbrev μ-loop : tie.MeasureT-loop
 μ-loop text n cells₀ d₀ i₀ cells d i = n - i
 
 loop-holds : tie.Need-loop-holds Inv-loop μ-loop
 unfolding readBy
-loop-holds c = (omega arith, omega arith, refl, λ s shown. shown)
+loop-holds c = (omega arith, omega arith, refl, λ s shown. shown, c .before .before .pre .1)
 
 first-at-requires : tie.Need-first-at-requires Inv-loop μ-loop
 first-at-requires c κs = search needs
@@ -40,7 +41,9 @@ row-at-requires : tie.Need-row-at-requires Inv-loop μ-loop
 row-at-requires c κs = search needs
 
 read-line-requires : tie.Need-read-line-requires Inv-loop μ-loop
-read-line-requires c κs = omega (arith, c .before .before .before .before .before .before .before .loop .inv, c .before .before .before .before .before .before .before .before .before .before .pre)
+read-line-requires c κs =
+    let l = c .before .before .before .before .before .before .before .loop in
+    (omega (arith, l .inv .0, l .inv .1, c .before .before .before .before .before .before .before .before .before .before .pre .0), l .inv .4)
 
 add-i : tie.Need-add-i Inv-loop μ-loop
 add-i c = search needs
@@ -54,7 +57,7 @@ loop-again c =
     let g = c .before .before .before .before .before .before .before .before .before .before .before .before .before .args in
     let r = c .before .before .read-line in (
       omega (arith, l .inv .0, c .before .before .before .before .before .before .before .before .before .loop-test .taken),
-      omega (arith, l .inv .1, r .ensures .1),
+      omega (arith, l .inv .1, r .ensures .1 .0),
       r .kept .1 .1 .1 .0 ∙ l .inv .2,
       λ s shown. let t = readBy (g .text .now) dueRow (l .i) s in
           let now : Shows (l .cells) (l .d) t = l .inv .3 s shown in
@@ -63,8 +66,9 @@ loop-again c =
           ∙ (ap (λ (m : ℕ). rowAt m (c .before .before .before .before .before .units-read .result) (l .d .lines)) (c .before .before .before .before .before .before .before .first-at .ensures)
           ∙ (ap (λ (n : ℕ). rowAt (numberOf (lineIn (l .cells) 0)) n (l .d .lines)) (c .before .before .before .before .before .units-read .ensures .0)
           ∙ (ap (rowAt (numberOf (lineIn (l .cells) 0)) (ones (numberOf (lineIn (l .cells) 29)))) (now .lines-is)
-          ∙ row-due (l .cells) (t .lines) (now .kept) (omega (arith, l .inv .2, c .before .before .before .before .before .before .before .before .before .before .before .before .before .pre))))) in
+          ∙ row-due (l .cells) (t .lines) (now .kept) (omega (arith, l .inv .2, c .before .before .before .before .before .before .before .before .before .before .before .before .before .pre .0))))) in
           rw by-next (subst (λ (x : Row). Shows (r .last .1 .1 .1 .0) (r .result) (readLine (g .text .now) x t)) row (r .ensures .0 t now)),
+      r .ensures .1 .1,
     )
 
 same-length : tie.Need-same-length Inv-loop μ-loop
@@ -74,7 +78,7 @@ returns : tie.Need-returns Inv-loop μ-loop
 returns c =
     let l = c .before .loop in
     let all : l .i ≡ c .before .before .before .before .args .n = omega (arith, l .inv .0, c .loop-test .left) in
-    (λ s shown. subst (λ (n : ℕ). Shows (l .cells) (l .d) (readBy (c .before .before .before .before .args .text .now) dueRow n s)) all (l .inv .3 s shown), omega (arith, l .inv .1))
+    (λ s shown. subst (λ (n : ℕ). Shows (l .cells) (l .d) (readBy (c .before .before .before .before .args .text .now) dueRow n s)) all (l .inv .3 s shown), (omega (arith, l .inv .1), l .inv .4))
 
 pub read-more-spec : {M : Type 1} → statement M
 read-more-spec =

@@ -12,6 +12,7 @@ use Rattle.lines.specs.declared.ReadAnswer.the-variants.{Refused}
 use Rattle.lines.specs.Cells.{Shows}
 use Rattle.lines.specs.Refusals.{badStart}
 use Rattle.lines.proofs.Reading.{start-within}
+use Rattle.lines.proofs.Storage.{zeros-blank}
 use Rattle.sheet.specs.Rows.{readLines}
 use Rattle.lines.specs.Lines.{lineOf}
 use Rattle.sheet.specs.Day.{sheetOf, sheetBy, noSheet}
@@ -63,7 +64,7 @@ slice-aggregate-read-lines : tie.Need-slice-aggregate-read-lines
 slice-aggregate-read-lines c = search needs
 
 read-lines-requires : tie.Need-read-lines-requires
-read-lines-requires c κs = search needs
+read-lines-requires c κs = (omega arith, zeros-blank 7000)
 
 answer-of-requires : tie.Need-answer-of-requires
 answer-of-requires c κs = fits (c .before .before .before)
