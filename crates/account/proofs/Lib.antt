@@ -1,4 +1,5 @@
 pub mod Promised
 pub mod Reading
 pub mod Turned
-pub mod Typed
+pub mod Stored
+pub mod Underway

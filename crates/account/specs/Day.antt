@@ -98,6 +98,10 @@ answeredBy text after left place Accepted = dueAt text after left
 answeredBy text after left place (Posted n) = dueAt text place left
 answeredBy text after left place (Refused r) = noneDue (refusalNumber r)
 
+-- the same of a take, by its refusal's number or 0
+unfoldable pub takenDue : List ℕ → (after left number : ℕ) → Due
+takenDue text after left number = cond (eqb number 0) (dueAt text after left) (noneDue number)
+
 unfoldable pub dayAfter : List ℕ → Day → Outcome → Day
 dayAfter text d o = dayWith (o .count) (o .book) (answeredBy text (d .after) (d .left) (o .place) (o .answer))
 

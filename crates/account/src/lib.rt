@@ -1,23 +1,15 @@
 // The day's account: from the bytes of day.txt to the bytes printed. The sheet is read, then takes and hour records are carried out as they
 // come, over a journal of 2,000 places.
 ghost use mathlib.Core.Path.{_≡_};
-ghost use Prim.Native.Nat.{suc, _-_, _≤_};
-ghost use lib.ListN.{length, replicate};
-ghost use Rattle.postings.specs.Journal.{noPosting};
-ghost use Rattle.state.specs.Book.{emptyBook};
-ghost use Rattle.book.specs.Calls.{outcomeOf};
+ghost use Prim.Native.Nat.{_-_, _≤_};
 ghost use Rattle.book.specs.Requests.{noneAsked};
-ghost use Rattle.book.specs.Sound.{Known};
 ghost use Rattle.decimal.specs.Output.{output, written, filled};
 ghost use Rattle.listing.specs.Listing.{mostBytes};
-ghost use Rattle.account.specs.Day.{takeRow, takeOf, settleOf, nextAt, noneDue, dueAt, dayAt, answeredBy, dayAfter, Running, turned, ranOut, dayFrom};
-ghost use Rattle.account.specs.Reached.{Reached, decidedNext};
+ghost use Rattle.account.specs.Day.{takeRow, takeOf, settleOf, nextAt, noneDue, dueAt, answeredBy, takenDue, dayWith, dayFrom};
 ghost use Rattle.account.specs.Statement.{dayLines, statementOf};
 use book::Answer;
 use book::Asked;
-use book::Decision;
 use lines::ReadAnswer;
-use postings::Posting;
 use sheet::Sheet;
 use state::Book;
 use text::Line;
@@ -39,7 +31,7 @@ pub struct Due {
     pub refusal: u64,
 }
 
-// The day so far, with what is due.
+// A day, with what is due in it.
 pub struct Day {
     pub left: usize,
     pub count: u64,
@@ -191,28 +183,24 @@ fn due_after(text: &[u8], after: usize, left: usize, place: u64, answer: Answer)
     }
 }
 
-// What the day's call comes to, where the day is known to be in its ranges.
-fn decided_next(sheet: Sheet, holds: bool, text: &[u8], places: usize, day: Day) -> Decision
-    requires { ⌜ Known sheet holds (day .book) (day .count) places ⌝ }
-    ensures { λ r. ⌜ r ≡ decidedNext sheet (now (text .entry)) day places ⌝ }
+// What is due after a take, by its refusal's number or 0.
+fn due_taken(text: &[u8], due: Due, number: u64) -> Due
+    ensures { λ r. ⌜ r ≡ takenDue (now (text .entry)) (due .after) (due .left) number ⌝ }
 {
-    let asked = day.asked;
-    let book = day.book;
-    let request = book::request_of(sheet, text, asked);
-    book::decide_known(sheet, holds, book, request, day.count, places)
+    if number == 0 {
+        return due_at(text, due.after, due.left);
+    }
+    none_due(number)
 }
 
-// The day after a call. The book is handed on once, whatever the answer.
-fn day_after(text: &[u8], day: Day, decision: Decision) -> Day
-    ensures { λ r. ⌜ r ≡ dayAfter (now (text .entry)) day (outcomeOf decision) ⌝ }
+// The day with what is due in it.
+fn day_with(count: u64, book: Book, due: Due) -> Day
+    ensures { λ r. ⌜ r ≡ dayWith count book due ⌝ }
 {
-    let answer = decision.answer;
-    let due = due_after(text, day.after, day.left, decision.place, answer);
     let asked = due.asked;
-    let book = decision.book;
     Day {
         left: due.left,
-        count: decision.count,
+        count: count,
         book: book,
         asked: asked,
         after: due.after,
@@ -220,55 +208,62 @@ fn day_after(text: &[u8], day: Day, decision: Decision) -> Day
     }
 }
 
-// The day's first call, on the empty book.
-fn day_begun(text: &[u8], at: usize) -> Day
-    ensures { λ r. ⌜ r ≡ dayAt (now (text .entry)) at (suc (length (now (text .entry)))) 0 emptyBook ⌝ }
-{
-    let due = due_at(text, at, text.len() + 1);
-    let asked = due.asked;
-    Day {
-        left: due.left,
-        count: 0,
-        book: state::empty_book(),
-        asked: asked,
-        after: due.after,
-        refusal: due.refusal,
-    }
-}
-
-// One call of the day.
-fn turn(list: &mut [Posting], sheet: Sheet, holds: bool, text: &[u8], day: Day) -> Day
-    requires { ⌜ Reached sheet holds (record { list = now list; day = day }) ⌝ }
-    ensures { λ r. ⌜ record { list = now (list .exit); day = r } ≡ turned sheet (now (text .entry)) (record { list = now (list .entry); day = day }) ⌝ }
-{
-    let decision = decided_next(sheet, holds, text, list.len(), day);
-    journal::append(list, decision.at, decision.plan, decision.n);
-    day_after(text, day, decision)
-}
-
-// The day's calls, over a lent journal. The sheet is tested once.
-fn carry_out(list: &mut [Posting], sheet: Sheet, text: &[u8], at: usize) -> Day
-    ensures { λ r. ⌜ record { list = now (list .exit); day = r } ≡ ranOut sheet (now (text .entry)) (record { list = now (list .entry); day = dayAt (now (text .entry)) at (suc (length (now (text .entry)))) 0 emptyBook }) ⌝ }
-{
-    let holds = sheet::sheet_holds(sheet);
-    let mut day = day_begun(text, at);
-    while 0 < day.left {
-        day = turn(list, sheet, holds, text, day);
-    }
-    day
-}
-
-// The day behind its sheet, over a journal of 2,000 places.
+// The day behind its sheet, over a journal of 2,000 places. The sheet is tested once. The book stands in one place: a take stores a commitment, a
+// record its hour. What is posted is not printed, so the number of postings alone is kept.
 pub fn day_of(sheet: Sheet, text: &[u8], at: usize) -> Day
     ensures { λ r. ⌜ r ≡ dayFrom sheet (now (text .entry)) at ⌝ }
 {
-    let mut list = [Posting {
-        hour: 0,
-        unit: 0,
-        item: 0,
-        amount: 0,
-    }; 2000];
-    carry_out(&mut list, sheet, text, at)
+    let holds = sheet::sheet_holds(sheet);
+    let units = sheet.units;
+    let limits = book::limits_of(sheet);
+    let mut book = state::empty_book();
+    let mut count: u64 = 0;
+    let mut due = due_at(text, at, text.len() + 1);
+    while 0 < due.left {
+        let asked = due.asked;
+        if book::commits(asked.kind) {
+            let kind = asked.kind;
+            let hour = asked.hour;
+            let unit = asked.unit;
+            let h = book::hour_place(hour);
+            let from = book::entry_place(hour, unit);
+            let target = book::entry_place(hour, book::target_of(kind, unit, asked.to));
+            let settled = book.mark[h] == 1;
+            let source = book.commitment[from];
+            let held = book.commitment[target];
+            let last = limits[target];
+            let shift = book::shift_of(holds, units, asked, settled, source, held, last);
+            let left = shift.from;
+            let then = shift.to;
+            book.commitment[from] = left;
+            book.commitment[target] = then;
+            due = due_taken(text, due, shift.number);
+        } else {
+            let request = book::request_of(sheet, text, asked);
+            let h = book::posting_place(request);
+            let day = settlement::hour_sheet(sheet, h as u64 + 1);
+            let entry = state::hour_entry(book, h);
+            let d = book::decide_known(holds, day, entry, request, count, 2000);
+            let answer = d.answer;
+            due = due_after(text, due.after, due.left, d.place, answer);
+            if d.accepted {
+                let result = d.result;
+                book.mark[h] = d.mark;
+                count += d.n as u64;
+                let mut k: usize = 0;
+                while k < 8 {
+                    if units::member_at(units, k) {
+                        let grains = result.energy[k];
+                        let amounts = result.amounts[k];
+                        book.energy[8 * h + k] = grains;
+                        book.amounts[8 * h + k] = amounts;
+                    }
+                    k += 1;
+                }
+            }
+        }
+    }
+    day_with(count, book, due)
 }
 
 // What is printed of a day.

@@ -4,7 +4,7 @@
 use mathlib.Core.Path.{_≡_, refl, ap, sym, _∙_, subst}
 use mathlib.Core.Bool.{Bool, true, false, cond, _&&_}
 use mathlib.Core.List.{List, [], _∷_}
-use Prim.Native.Nat.{ℕ, _/_, _%_, _≤_}
+use Prim.Native.Nat.{ℕ, _/_, _%_, _≤_, _<_}
 use native.Mathlib.Omega.{arith}
 use borrow.Author.Tests.{eqb-true, eqb-false, leb-true}
 use lib.Dec.{leb, eqb}
@@ -12,27 +12,64 @@ use lib.ListN.{getD, set}
 use lib.Seq.{set-getD}
 use Rattle.finite.proofs.Tests.{and-left, and-right}
 use Rattle.energy.specs.declared.HubKwh.{HubKwh}
+use Rattle.lines.specs.declared.TextRefusal.{TextRefusal}
+use Rattle.lines.specs.declared.TextRefusal.the-variants.{NotDue, BadValue, OfferOrder, TextEnds}
+use Rattle.lines.specs.Refusals.{textNumber}
 use Rattle.sheet.specs.declared.Sheet.{Sheet}
 use Rattle.sheet.specs.Ranges.{sheetHolds}
 use Rattle.state.specs.declared.Book.{Book}
 use Rattle.state.specs.Book.{noKwh, settledMark}
 use Rattle.state.specs.Ranges.{limitAt}
-use Rattle.book.specs.declared.Refusal.the-variants.{SheetRange}
+use Rattle.book.specs.declared.Refusal.{Refusal}
+use Rattle.book.specs.declared.Refusal.the-variants.{Text, SheetRange, HourRange, UnitUnknown, BookRange, HourSettled, NoAmount, OverOffer, HeldLess, SameUnit, Minutes, Readings, Proportions, HourStands, HourOpen, NoPlaces}
 use Rattle.book.specs.declared.Verdict.{Verdict}
 use Rattle.book.specs.declared.Verdict.the-variants.{Accepted, Refused}
 use Rattle.book.specs.declared.Asked.{Asked}
 use Rattle.book.specs.declared.Shift.{Shift}
 use Rattle.book.specs.declared.Request.{Request}
 use Rattle.book.specs.declared.Decision.{Decision}
-use Rattle.book.specs.Numbers.{refusalLine, numberOf, lineOf, postedOf}
+use Rattle.book.specs.declared.Answer.{Answer}
+use Rattle.book.specs.declared.Answer.the-variants.{Accepted as Done, Refused as Not}
+use Rattle.book.specs.Numbers.{refusalNumber, refusalLine, numberOf, lineOf, postedOf}
 use Rattle.book.specs.Calls.{Row, verdict, takeTests, releaseTests, moveTests, byVerdict, changedTo, refusedWith, bookFits, requestDecided, decided, plainRequest, requestOf}
 use Rattle.book.specs.Requests.{callFor}
 use Rattle.book.specs.Commitments.{hourPlace, entryPlace, targetOf, commitVerdict, committedBook, shiftBy, shiftOf, shiftIn, bookWith, commitmentDecided}
 use Rattle.book.proofs.Ladders.{decided-9, decided-on}
 use Rattle.book.proofs.Committed.{commitment-is}
 
+-- an answer without postings, by its number
+pub data Told (a : Answer) (number : ℕ) : Type 0 where
+  accepted : a ≡ Done → number ≡ 0 → Told a number
+  refused : (r : Refusal) → a ≡ Not r → number ≡ refusalNumber r → Told a number
+
+-- no refusal has the number 0
+text-some : (t : TextRefusal) → eqb (textNumber t) 0 ≡ false
+text-some (NotDue line) = refl
+text-some (BadValue line) = refl
+text-some (OfferOrder line) = refl
+text-some (TextEnds line) = refl
+
+pub number-some : (r : Refusal) → eqb (refusalNumber r) 0 ≡ false
+number-some (Text t) = text-some t
+number-some SheetRange = refl
+number-some HourRange = refl
+number-some UnitUnknown = refl
+number-some BookRange = refl
+number-some HourSettled = refl
+number-some NoAmount = refl
+number-some OverOffer = refl
+number-some HeldLess = refl
+number-some SameUnit = refl
+number-some Minutes = refl
+number-some Readings = refl
+number-some Proportions = refl
+number-some HourStands = refl
+number-some HourOpen = refl
+number-some NoPlaces = refl
+
 pub record Carried (d : Decision) (b : Book) (count number : ℕ) : Type 0 where
   pub book-is : d .book ≡ b
+  pub told : Told (d .answer) number
   pub number-is : numberOf (d .answer) ≡ number
   pub no-line : lineOf (d .answer) ≡ 0
   pub none-posted : postedOf (d .answer) ≡ 0
@@ -125,8 +162,8 @@ module _ (s : Sheet) (b : Book) (count places : ℕ) (posted : Bool) (text : Lis
   by-verdict : (v : Verdict) → line-in v ≡ 0
       → Carried (byVerdict v (changedTo (committedBook b (a .kind) (a .hour) (a .unit) (a .to) (a .kwh)) count) (refusedWith b count 0))
       (bookWith b a (shiftBy v (a .kind) (a .kwh) source held)) count (shiftBy v (a .kind) (a .kwh) source held .number)
-  by-verdict Accepted e = record { book-is = refl; number-is = refl; no-line = refl; none-posted = refl; no-place = refl; same-count = refl; no-rows = refl }
-  by-verdict (Refused r) e = record { book-is = unchanged; number-is = refl; no-line = e; none-posted = refl; no-place = refl; same-count = refl; no-rows = refl }
+  by-verdict Accepted e = record { book-is = refl; told = accepted refl refl; number-is = refl; no-line = refl; none-posted = refl; no-place = refl; same-count = refl; no-rows = refl }
+  by-verdict (Refused r) e = record { book-is = unchanged; told = refused r refl refl; number-is = refl; no-line = e; none-posted = refl; no-place = refl; same-count = refl; no-rows = refl }
 
   decided-carried : sheetHolds s ≡ true → Carried (commitmentDecided s b count 0 (a .kind) (a .hour) (a .unit) (a .to) (a .kwh)) (bookWith b a shift) count (shift .number)
   unfolding commitmentDecided shiftOf
@@ -138,7 +175,7 @@ module _ (s : Sheet) (b : Book) (count places : ℕ) (posted : Bool) (text : Lis
   sheet-carried : sheetHolds s ≡ false → Carried (refusedWith b count 0 SheetRange) (bookWith b a shift) count (shift .number)
   unfolding shiftOf
   sheet-carried t =
-      rw t (record { book-is = unchanged; number-is = refl; no-line = refl; none-posted = refl; no-place = refl; same-count = refl; no-rows = refl })
+      rw t (record { book-is = unchanged; told = refused SheetRange refl refl; number-is = refl; no-line = refl; none-posted = refl; no-place = refl; same-count = refl; no-rows = refl })
 
   -- the request has the call's numbers; a take and a release have no second unit
   request-start : Kind (a .kind) → q .start ≡ 0
@@ -185,3 +222,21 @@ module _ (s : Sheet) (b : Book) (count places : ℕ) (posted : Bool) (text : Lis
       by false t =
           subst (λ (d : Decision). Carried d (bookWith b a shift) count (shift .number))
           (ap (λ (n : ℕ). refusedWith b count n SheetRange) (sym (request-start (kind-of (a .kind) e))) ∙ decided-9 s b q count places posted t) (sheet-carried t)
+
+-- the same as the code has it: the places and the limit are results of calls
+module _ (s : Sheet) (holds : Bool) (known : holds ≡ sheetHolds s) (b : Book) (a : Asked) (limits : List HubKwh)
+    (limits-are : (j : ℕ) → j < 192 → getD limits j noKwh ≡ limitAt s (j / 8) (j % 8)) (units : ℕ) (units-is : units ≡ s .units)
+    (h from t target : ℕ) (h-is : h ≡ hourPlace (a .hour)) (from-is : from ≡ entryPlace (a .hour) (a .unit)) (t-is : t ≡ targetOf (a .kind) (a .unit) (a .to))
+    (target-is : target ≡ entryPlace (a .hour) t) (low : target < 192) where
+  target-at : target ≡ entryPlace (a .hour) (targetOf (a .kind) (a .unit) (a .to))
+  target-at = target-is ∙ ap (entryPlace (a .hour)) t-is
+
+  pub shift-here : shiftOf holds units a (eqb (getD (b .mark) h 0) settledMark) (getD (b .commitment) from noKwh) (getD (b .commitment) target noKwh) (getD limits target noKwh)
+      ≡ shiftIn s b a
+  shift-here =
+      let last = limits-are target low ∙ ap (λ (n : ℕ). limitAt s (n / 8) (n % 8)) target-at in
+      λ i. shiftOf (known i) (units-is i) a (eqb (getD (b .mark) (h-is i) 0) settledMark) (getD (b .commitment) (from-is i) noKwh) (getD (b .commitment) (target-at i) noKwh) (last i)
+
+  pub book-here : (r : Shift)
+      → _≡_ {A = Book} (record { commitment = set (set (b .commitment) from (r .from)) target (r .to); mark = b .mark; energy = b .energy; amounts = b .amounts }) (bookWith b a r)
+  book-here r = λ i. record { commitment = set (set (b .commitment) (from-is i) (r .from)) (target-at i) (r .to); mark = b .mark; energy = b .energy; amounts = b .amounts }

@@ -897,13 +897,7 @@ fn plain_request(kind: u64, hour: u64, unit: u64, to: u64, kwh: u64) -> Request
 }
 
 // The request of a record's text, for the plant's units with their monthly practical powers.
-fn record_request(
-    units: u64,
-    monthly: [GrossKwh; 8],
-    kind: u64,
-    text: &[u8],
-    start: u64,
-) -> Request
+fn record_request(units: u64, monthly: [GrossKwh; 8], kind: u64, text: &[u8], start: u64) -> Request
     ensures { λ r. ⌜ r ≡ readRequest units monthly kind (now (text .entry)) start ⌝ }
 {
     let read = record::read_record(text, start, units, monthly);

@@ -30,7 +30,7 @@ use Rattle.book.specs.Requests.{askedAt, callFor, callAt, requestAt, callsIn}
 use Rattle.book.specs.Commitments.{hourPlace, entryPlace, targetOf, shiftOf, shiftIn, bookWith}
 use Rattle.book.proofs.Promise.{promise}
 use Rattle.book.proofs.Places.{decided-fits, decided-rows}
-use Rattle.book.proofs.Carried.{Carried, carried}
+use Rattle.book.proofs.Carried.{Carried, carried, shift-here, book-here}
 use Rattle.journal.specs.declared.Ran.{Ran}
 use Rattle.journal.specs.declared.Stand.{Stand}
 use Rattle.journal.specs.Journal.{posted, performed}
@@ -136,31 +136,19 @@ module _ (sheet : Sheet) (calls answers : List ℕ) (st : Stand) (commits : (leb
       (target-is : target ≡ entryPlace (x .hour) t) (target-low : target < 192) (r : Shift)
       (r-is : r ≡ shiftOf (st .holds) units x (eqb (getD (st .book .mark) h 0) settledMark) (getD (st .book .commitment) from noKwh) (getD (st .book .commitment) target noKwh) (getD limits target noKwh))
       (answers′ : List ℕ) (answers-are : answers′ ≡ replied answers (st .next) (r .number) 0 0 0) where
-    from-at : from ≡ entryPlace (asked .hour) (asked .unit)
-    from-at = from-is ∙ ap (λ (y : Asked). entryPlace (y .hour) (y .unit)) x-is
-
-    target-at : target ≡ entryPlace (asked .hour) (targetOf (asked .kind) (asked .unit) (asked .to))
-    target-at =
-        target-is
-        ∙ (ap (λ (y : Asked). entryPlace (y .hour) t) x-is
-        ∙ ap (entryPlace (asked .hour)) (t-is ∙ ap (λ (y : Asked). targetOf (y .kind) (y .unit) (y .to)) x-is))
-
-    h-at : h ≡ hourPlace (asked .hour)
-    h-at = h-is ∙ ap (λ (y : Asked). hourPlace (y .hour)) x-is
-
-    last-at : getD limits target noKwh ≡ limitAt sheet (entryPlace (asked .hour) (targetOf (asked .kind) (asked .unit) (asked .to)) / 8) (entryPlace (asked .hour) (targetOf (asked .kind) (asked .unit) (asked .to)) % 8)
-    last-at = limits-are target target-low ∙ ap (λ (n : ℕ). limitAt sheet (n / 8) (n % 8)) target-at
-
     shift-at : st .holds ≡ sheetHolds sheet → r ≡ shift
     shift-at known =
         r-is
-        ∙ (λ i. shiftOf (known i) (units-is i) (x-is i) (eqb (getD (st .book .mark) (h-at i) 0) settledMark) (getD (st .book .commitment) (from-at i) noKwh) (getD (st .book .commitment) (target-at i) noKwh) (last-at i))
+        ∙ (shift-here sheet (st .holds) known (st .book) x limits limits-are units units-is h from t target h-is from-is t-is target-is target-low
+        ∙ ap (shiftIn sheet (st .book)) x-is)
 
     book-at : st .holds ≡ sheetHolds sheet
         → _≡_ {A = Ran} (record { book = bookWith (st .book) asked shift; count = st .count })
         (record { book = record { commitment = set (set (st .book .commitment) from (r .from)) target (r .to); mark = st .book .mark; energy = st .book .energy; amounts = st .book .amounts }; count = st .count })
     book-at known =
-        sym (λ i. record { book = record { commitment = set (set (st .book .commitment) (from-at i) (shift-at known i .from)) (target-at i) (shift-at known i .to); mark = st .book .mark; energy = st .book .energy; amounts = st .book .amounts }; count = st .count })
+        ap (λ (b : Book). record { book = b; count = st .count })
+        (sym (book-here sheet (st .holds) known (st .book) x limits limits-are units units-is h from t target h-is from-is t-is target-is target-low r
+        ∙ ap₂ (bookWith (st .book)) x-is (shift-at known)))
 
     pub committed-next : Commits sheet calls answers answers′ st
         (record { book = record { commitment = set (set (st .book .commitment) from (r .from)) target (r .to); mark = st .book .mark; energy = st .book .energy; amounts = st .book .amounts }; count = st .count; next = st .next + 1; holds = st .holds })
