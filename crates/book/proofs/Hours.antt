@@ -29,9 +29,9 @@ use Rattle.book.specs.declared.Verdict.the-variants.{Accepted as passes,
 use Rattle.book.specs.declared.Request.{Request}
 use Rattle.book.specs.declared.Decision.{Decision}
 use Rattle.book.specs.declared.HourDecision.{HourDecision}
-use Rattle.book.specs.Calls.{Row, row, verdict, badHour, isSettled, textRows, recordTests, voidTests, recordRows, voidRows, requestRows, placeAfter, byVerdict, refusedWith, postedWith, recordedAt, acceptedIn, requestDecided, decided}
+use Rattle.book.specs.Calls.{Row, row, verdict, badHour, isSettled, textRows, recordTests, voidTests, recordRows, voidRows, requestRows, placeAfter, byVerdict, refusedWith, postedWith, recordedAt, voidedAt, acceptedIn, requestDecided, decided}
 use Rattle.book.specs.Commitments.{hourPlace}
-use Rattle.book.specs.Hours.{hourRefused, hourPosted, hourVerdict, entrySettled, recordPosted, testsIn, textIn, voidIn, settleIn, restateIn, hourOf, postingPlace, hourIn, knownIn, appliedTo}
+use Rattle.book.specs.Hours.{hourRefused, hourPosted, hourVerdict, entrySettled, voidPosted, recordPosted, testsIn, textIn, voidIn, settleIn, restateIn, hourOf, postingPlace, hourIn, knownIn, appliedTo}
 use Rattle.book.specs.Sound.{WellRead, Known}
 use Rattle.book.proofs.Ladders.{kind-other, decided-9, decided-on}
 
@@ -63,15 +63,14 @@ place-void q n m = let e : hourOf (q .kind) (q .hour) (q .read .hour) ≡ q .hou
 
 -- no more is posted than five for each of 64 ones, and the count then fits
 module _ (day : HourSheet) (e : HourEntry) (q : Request) (count places : ℕ) (known : day .units ≤ 255) where
-  few-by : (v : Verdict) (hour mark : ℕ) (result : HourResult) (place start : ℕ)
-      → hourVerdict v (hourPosted (day .units) (e .amounts) hour mark result place) (hourRefused start) .n ≤ 320
-  few-by passes hour mark result place start = omega (arith, ones-le 64 (day .units) (omega arith))
-  few-by (fails r) hour mark result place start = omega arith
+  few-by : (v : Verdict) (d : HourDecision) (start : ℕ) → d .n ≤ 320 → hourVerdict v d (hourRefused start) .n ≤ 320
+  few-by passes d start few = few
+  few-by (fails r) d start few = omega arith
 
   of-text : (standing : Row) → textIn day e q standing count places .n ≤ 320
   of-text standing =
-      few-by (verdict (textRows (q .answer) ++ testsIn day (q .read) standing count places)) (q .read .hour) settledMark (hourBy day (q .read) (e .commitment))
-      (placeAfter (q .start) (q .answer)) (q .start)
+      few-by (verdict (textRows (q .answer) ++ testsIn day (q .read) standing count places)) (recordPosted day e (q .read) (placeAfter (q .start) (q .answer))) (q .start)
+      (omega (arith, ones-le 64 (day .units) (omega arith)))
 
   pub hour-few : hourIn day e q count places .n ≤ 320
   unfolding hourIn settleIn restateIn voidIn
@@ -80,7 +79,8 @@ module _ (day : HourSheet) (e : HourEntry) (q : Request) (count places : ℕ) (k
       by : (t u : Bool) → cond t (settleIn day e q count places) (cond u (restateIn day e q count places) (voidIn day e count (q .start) (q .hour) places)) .n ≤ 320
       by true u = of-text (row HourStands (entrySettled e))
       by false true = of-text (row HourOpen (not (entrySettled e)))
-      by false false = few-by (verdict (voidTests (day .units) (q .hour) (entrySettled e) count places)) (q .hour) openMark noResult 0 (q .start)
+      by false false = few-by (verdict (voidTests (day .units) (q .hour) (entrySettled e) count places)) (voidPosted day e (q .hour)) (q .start)
+          (omega (arith, ones-le 64 (day .units) (omega arith)))
 
 pub known-few : (holds : Bool) (day : HourSheet) (e : HourEntry) (q : Request) (count places : ℕ) → (holds ≡ true → (day .units ≤ 255) × (count ≤ 100000))
     → knownIn holds day e q count places .accepted ≡ true → count + knownIn holds day e q count places .n < 2 ^ 64
@@ -141,7 +141,7 @@ module _ (s : Sheet) (b : Book) (count places : ℕ) where
 
   void-in : (hour start p : ℕ) → p ≡ hour - 1
       → appliedTo (s .units) b count p (voidIn (hourSheet s (suc p)) (hourEntry b p) count start hour places)
-      ≡ byVerdict (verdict (voidRows s b hour count places)) (postedWith s b hour openMark noResult 0 count) (refusedWith b count start)
+      ≡ byVerdict (verdict (voidRows s b hour count places)) (voidedAt s b hour count) (refusedWith b count start)
   unfolding voidIn hourSheet
   void-in hour start p e =
       (λ i. appliedTo (s .units) b count (e i) (voidIn (hourSheet s (suc p)) (hourEntry b (e i)) count start hour places))
@@ -149,19 +149,19 @@ module _ (s : Sheet) (b : Book) (count places : ℕ) where
 
   void-bad : (hour start p : ℕ) → badHour hour ≡ true
       → appliedTo (s .units) b count p (voidIn (hourSheet s (suc p)) (hourEntry b p) count start hour places)
-      ≡ byVerdict (verdict (voidRows s b hour count places)) (postedWith s b hour openMark noResult 0 count) (refusedWith b count start)
+      ≡ byVerdict (verdict (voidRows s b hour count places)) (voidedAt s b hour count) (refusedWith b count start)
   unfolding voidIn verdict appliedTo
   void-bad hour start p e = simp e
 
   void-on : (hour start p : ℕ) → p ≡ hourPlace hour
       → appliedTo (s .units) b count p (voidIn (hourSheet s (suc p)) (hourEntry b p) count start hour places)
-      ≡ byVerdict (verdict (voidRows s b hour count places)) (postedWith s b hour openMark noResult 0 count) (refusedWith b count start)
+      ≡ byVerdict (verdict (voidRows s b hour count places)) (voidedAt s b hour count) (refusedWith b count start)
   unfolding hourPlace
   void-on hour start p h = by (badHour hour) refl
     where
       by : (t : Bool) → badHour hour ≡ t
           → appliedTo (s .units) b count p (voidIn (hourSheet s (suc p)) (hourEntry b p) count start hour places)
-          ≡ byVerdict (verdict (voidRows s b hour count places)) (postedWith s b hour openMark noResult 0 count) (refusedWith b count start)
+          ≡ byVerdict (verdict (voidRows s b hour count places)) (voidedAt s b hour count) (refusedWith b count start)
       by true e = void-bad hour start p e
       by false e = void-in hour start p (h ∙ ap (λ (t : Bool). cond t 0 (hour - 1)) e)
 

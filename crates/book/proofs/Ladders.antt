@@ -17,12 +17,11 @@ use Rattle.settlement.specs.Refusals.{readingsHold}
 use Rattle.settlement.specs.Ranges.{proportionsBy}
 use Rattle.state.specs.declared.Book.{Book}
 use Rattle.state.specs.declared.HourEntry.{HourEntry}
-use Rattle.state.specs.Book.{noResult, openMark}
 use Rattle.book.specs.declared.Refusal.{Refusal}
 use Rattle.book.specs.declared.Refusal.the-variants.{Text, SheetRange, HourRange, BookRange, Minutes, Readings, Proportions, HourStands, HourOpen, NoPlaces}
 use Rattle.book.specs.declared.Request.{Request}
 use Rattle.book.specs.Calls.{verdict, badHour, shortOf, refusedWith, requestDecided, bookFits, decided}
-use Rattle.book.specs.Hours.{entrySettled, hourRefused, hourPosted, recordPosted, voidIn, recordIn, settleIn, restateIn, hourIn}
+use Rattle.book.specs.Hours.{entrySettled, hourRefused, voidPosted, recordPosted, voidIn, recordIn, settleIn, restateIn, hourIn}
 
 -- the kinds that are no take, release or move
 pub kind-other : (kind : ℕ) → (leb 1 kind && leb kind 3) ≡ false → (eqb kind 1 ≡ false) × (eqb kind 2 ≡ false) × (eqb kind 3 ≡ false)
@@ -48,7 +47,7 @@ module _ (day : HourSheet) (e : HourEntry) (count start hour places : ℕ) where
   void-42 e10 e41 t = simp (e10, e41, t)
 
   pub void-done : badHour hour ≡ false → entrySettled e ≡ true → shortOf (day .units) count places ≡ false
-      → hourPosted (day .units) (e .amounts) hour openMark noResult 0 ≡ voidIn day e count start hour places
+      → voidPosted day e hour ≡ voidIn day e count start hour places
   unfolding voidIn verdict
   void-done e10 e41 t = simp (e10, e41, t)
 

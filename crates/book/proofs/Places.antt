@@ -26,7 +26,7 @@ use Rattle.book.specs.declared.Verdict.{Verdict}
 use Rattle.book.specs.declared.Verdict.the-variants.{Accepted as passes, Refused as fails}
 use Rattle.book.specs.declared.Request.{Request}
 use Rattle.book.specs.declared.Decision.{Decision}
-use Rattle.book.specs.Calls.{Row, row, verdict, isSettled, heldKwh, shortOf, textRows, takeRows, releaseRows, moveRows, recordRows, voidRows, requestRows, rowsOf, byVerdict, refusedWith, changedTo, postedWith, recordedIn, withHeld, acceptedIn, decided, bookFits}
+use Rattle.book.specs.Calls.{Row, row, verdict, isSettled, heldKwh, shortOf, textRows, takeRows, releaseRows, moveRows, recordRows, voidRows, requestRows, rowsOf, byVerdict, refusedWith, changedTo, postedWith, recordedIn, voidedAt, withHeld, acceptedIn, decided, bookFits}
 
 abbrev FitsIn : ℕ → Decision → Type 0
 FitsIn places d = (d .n ≤ 40) × (d .n ≤ places - d .at) × (d .n ≤ length (d .plan .row))
@@ -94,7 +94,7 @@ module _ (s : Sheet) (b : Book) (q : Request) (count places : ℕ) where
         (withHeld (withHeld b (q .hour) (q .unit) (heldKwh b (q .hour) (q .unit) - q .kwh)) (q .hour) (q .to) (heldKwh b (q .hour) (q .to) + q .kwh))
         count)
         (cond k4 (recordedIn s b q count)
-        (cond k5 (recordedIn s b q count) (postedWith s b (q .hour) openMark noResult 0 count))))))
+        (cond k5 (recordedIn s b q count) (voidedAt s b (q .hour) count))))))
     by-kind true k2 k3 k4 k5 e = (omega arith, omega arith, omega arith)
     by-kind false true k3 k4 k5 e = (omega arith, omega arith, omega arith)
     by-kind false false true k4 k5 e = (omega arith, omega arith, omega arith)

@@ -213,6 +213,10 @@ recordedAt s b r place count =
 abbrev pub recordedIn : Sheet → Book → Request → (count : ℕ) → Decision
 recordedIn s b q count = recordedAt s b (q .read) (placeAfter (q .start) (q .answer)) count
 
+-- an accepted void: "energies and amounts are (..) 0 without a record"
+abbrev pub voidedAt : Sheet → Book → (hour count : ℕ) → Decision
+voidedAt s b hour count = postedWith s b hour openMark noResult 0 count
+
 -- an accepted call, by its kind
 unfoldable pub acceptedIn : Sheet → Book → Request → (count : ℕ) → Decision
 acceptedIn s b q count =
@@ -223,7 +227,7 @@ acceptedIn s b q count =
     (withHeld (withHeld b (q .hour) (q .unit) (heldKwh b (q .hour) (q .unit) - q .kwh)) (q .hour) (q .to) (heldKwh b (q .hour) (q .to) + q .kwh))
     count)
     (cond (eqb (q .kind) 4) (recordedIn s b q count)
-    (cond (eqb (q .kind) 5) (recordedIn s b q count) (postedWith s b (q .hour) openMark noResult 0 count)))))
+    (cond (eqb (q .kind) 5) (recordedIn s b q count) (voidedAt s b (q .hour) count)))))
 
 abbrev pub byVerdict : Verdict → Decision → (Refusal → Decision) → Decision
 byVerdict passes d f = d

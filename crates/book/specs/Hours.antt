@@ -43,10 +43,13 @@ hourVerdict (fails r) d f = f r
 abbrev pub entrySettled : HourEntry → Bool
 entrySettled e = eqb (e .mark) settledMark
 
+abbrev pub voidPosted : HourSheet → HourEntry → (hour : ℕ) → HourDecision
+voidPosted day e hour = hourPosted (day .units) (e .amounts) hour openMark noResult 0
+
 unfoldable pub voidIn : HourSheet → HourEntry → (count start hour places : ℕ) → HourDecision
 voidIn day e count start hour places =
     hourVerdict (verdict (voidTests (day .units) hour (entrySettled e) count places))
-    (hourPosted (day .units) (e .amounts) hour openMark noResult 0) (hourRefused start)
+    (voidPosted day e hour) (hourRefused start)
 
 abbrev pub recordPosted : HourSheet → HourEntry → Record → (place : ℕ) → HourDecision
 recordPosted day e r place = hourPosted (day .units) (e .amounts) (r .hour) settledMark (hourBy day r (e .commitment)) place

@@ -1,5 +1,6 @@
 pub mod Bounds
 pub mod Entries
+pub mod Hour
 pub mod Commitments
 pub mod Marks
 pub mod Empty

@@ -28,7 +28,7 @@ use Rattle.account.specs.declared.Due.{Due}
 use Rattle.account.specs.declared.Day.{Day}
 use Rattle.account.specs.Day.{dueAt, dayWith, begun, ranOut}
 use Rattle.account.specs.Reached.{Underway}
-use Rattle.account.proofs.Stored.{After, after-none, after-in, after-out, after-all}
+use Rattle.state.proofs.Hour.{After, after-none, after-in, after-out, after-all}
 use Rattle.account.proofs.Underway.{answered-less, taken-less, under-first, under-known, under-end, take-next, record-next, record-refused}
 use borrow.Author.Needs.{needs}
 use Rattle.account.proofs.day_of.Statement.{statement}

@@ -15,31 +15,43 @@ hour-refused-requires : tie.Need-hour-refused-requires
 hour-refused-requires c κs = search needs
 
 returns : tie.Need-returns
-returns c = c .hour-refused .ensures ∙ record-31 (c .before .before .before .before .before .args .day) (c .before .before .before .before .before .args .entry) (c .before .before .before .before .before .args .count) (c .before .before .before .before .before .args .start) (c .before .before .before .before .before .args .read) (c .before .before .before .before .before .args .place) (c .before .before .before .before .before .args .standing) (c .before .before .before .before .before .args .stands) (c .before .before .before .before .before .args .places) (sym (c .before .before .minutes-hold .ensures) ∙ not-true _ (c .before .if1 .taken))
+returns c =
+    let a = c .before .before .before .before .before .args in
+    c .hour-refused .ensures ∙ record-31 (a .day) (a .entry) (a .count) (a .start) (a .read) (a .place) (a .standing) (a .stands) (a .places) (sym (c .before .before .minutes-hold .ensures) ∙ not-true _ (c .before .if1 .taken))
 
 hour-refused-requires-2 : tie.Need-hour-refused-requires-2
 hour-refused-requires-2 c κs = search needs
 
 returns-2 : tie.Need-returns-2
-returns-2 c = c .hour-refused2 .ensures ∙ record-40 (c .before .before .before .before .before .before .args .day) (c .before .before .before .before .before .before .args .entry) (c .before .before .before .before .before .before .args .count) (c .before .before .before .before .before .before .args .start) (c .before .before .before .before .before .before .args .read) (c .before .before .before .before .before .before .args .place) (c .before .before .before .before .before .before .args .standing) (c .before .before .before .before .before .before .args .stands) (c .before .before .before .before .before .before .args .places) (sym (c .before .before .before .minutes-hold .ensures) ∙ not-false _ (c .before .before .if1 .left)) (c .before .if2 .taken)
+returns-2 c =
+    let a = c .before .before .before .before .before .before .args in
+    c .hour-refused2 .ensures ∙ record-40 (a .day) (a .entry) (a .count) (a .start) (a .read) (a .place) (a .standing) (a .stands) (a .places) (sym (c .before .before .before .minutes-hold .ensures) ∙ not-false _ (c .before .before .if1 .left)) (c .before .if2 .taken)
 
 readings-hold-requires : tie.Need-readings-hold-requires
-readings-hold-requires c κs = due-range (c .before .before .before .before .before .args .day) (c .before .before .before .before .before .args .entry) (c .before .before .before .before .before .args .read) (c .before .before .before .before .before .pre)
+readings-hold-requires c κs =
+    let a = c .before .before .before .before .before .args in
+    due-range (a .day) (a .entry) (a .read) (c .before .before .before .before .before .pre)
 
 hour-refused-requires-3 : tie.Need-hour-refused-requires-3
 hour-refused-requires-3 c κs = search needs
 
 returns-3 : tie.Need-returns-3
-returns-3 c = c .hour-refused3 .ensures ∙ record-32 (c .before .before .before .before .before .before .before .before .args .day) (c .before .before .before .before .before .before .before .before .args .entry) (c .before .before .before .before .before .before .before .before .args .count) (c .before .before .before .before .before .before .before .before .args .start) (c .before .before .before .before .before .before .before .before .args .read) (c .before .before .before .before .before .before .before .before .args .place) (c .before .before .before .before .before .before .before .before .args .standing) (c .before .before .before .before .before .before .before .before .args .stands) (c .before .before .before .before .before .before .before .before .args .places) (sym (c .before .before .before .before .before .minutes-hold .ensures) ∙ not-false _ (c .before .before .before .before .if1 .left)) (c .before .before .before .if2 .left) (sym (c .before .before .readings-hold .ensures) ∙ not-true _ (c .before .if3 .taken))
+returns-3 c =
+    let a = c .before .before .before .before .before .before .before .before .args in
+    c .hour-refused3 .ensures ∙ record-32 (a .day) (a .entry) (a .count) (a .start) (a .read) (a .place) (a .standing) (a .stands) (a .places) (sym (c .before .before .before .before .before .minutes-hold .ensures) ∙ not-false _ (c .before .before .before .before .if1 .left)) (c .before .before .before .if2 .left) (sym (c .before .before .readings-hold .ensures) ∙ not-true _ (c .before .if3 .taken))
 
 proportions-hold-requires : tie.Need-proportions-hold-requires
-proportions-hold-requires c κs = due-given (c .before .before .before .before .before .before .before .args .day) (c .before .before .before .before .before .before .before .args .entry) (c .before .before .before .before .before .before .before .args .read) (c .before .before .before .before .before .before .before .pre)
+proportions-hold-requires c κs =
+    let a = c .before .before .before .before .before .before .before .args in
+    due-given (a .day) (a .entry) (a .read) (c .before .before .before .before .before .before .before .pre)
 
 hour-refused-requires-4 : tie.Need-hour-refused-requires-4
 hour-refused-requires-4 c κs = search needs
 
 returns-4 : tie.Need-returns-4
-returns-4 c = c .hour-refused4 .ensures ∙ record-33 (c .before .before .before .before .before .before .before .before .before .before .args .day) (c .before .before .before .before .before .before .before .before .before .before .args .entry) (c .before .before .before .before .before .before .before .before .before .before .args .count) (c .before .before .before .before .before .before .before .before .before .before .args .start) (c .before .before .before .before .before .before .before .before .before .before .args .read) (c .before .before .before .before .before .before .before .before .before .before .args .place) (c .before .before .before .before .before .before .before .before .before .before .args .standing) (c .before .before .before .before .before .before .before .before .before .before .args .stands) (c .before .before .before .before .before .before .before .before .before .before .args .places) (sym (c .before .before .before .before .before .before .before .minutes-hold .ensures) ∙ not-false _ (c .before .before .before .before .before .before .if1 .left)) (c .before .before .before .before .before .if2 .left) (sym (c .before .before .before .before .readings-hold .ensures) ∙ not-false _ (c .before .before .before .if3 .left)) (sym (c .before .before .proportions-hold .ensures) ∙ not-true _ (c .before .if4 .taken))
+returns-4 c =
+    let a = c .before .before .before .before .before .before .before .before .before .before .args in
+    c .hour-refused4 .ensures ∙ record-33 (a .day) (a .entry) (a .count) (a .start) (a .read) (a .place) (a .standing) (a .stands) (a .places) (sym (c .before .before .before .before .before .before .before .minutes-hold .ensures) ∙ not-false _ (c .before .before .before .before .before .before .if1 .left)) (c .before .before .before .before .before .if2 .left) (sym (c .before .before .before .before .readings-hold .ensures) ∙ not-false _ (c .before .before .before .if3 .left)) (sym (c .before .before .proportions-hold .ensures) ∙ not-true _ (c .before .if4 .taken))
 
 short-of-requires : tie.Need-short-of-requires
 short-of-requires c κs = search needs
@@ -48,18 +60,25 @@ hour-refused-requires-5 : tie.Need-hour-refused-requires-5
 hour-refused-requires-5 c κs = search needs
 
 returns-5 : tie.Need-returns-5
-returns-5 c = c .hour-refused5 .ensures ∙ record-42 (c .before .before .before .before .before .before .before .before .before .before .before .before .args .day) (c .before .before .before .before .before .before .before .before .before .before .before .before .args .entry) (c .before .before .before .before .before .before .before .before .before .before .before .before .args .count) (c .before .before .before .before .before .before .before .before .before .before .before .before .args .start) (c .before .before .before .before .before .before .before .before .before .before .before .before .args .read) (c .before .before .before .before .before .before .before .before .before .before .before .before .args .place) (c .before .before .before .before .before .before .before .before .before .before .before .before .args .standing) (c .before .before .before .before .before .before .before .before .before .before .before .before .args .stands) (c .before .before .before .before .before .before .before .before .before .before .before .before .args .places) (sym (c .before .before .before .before .before .before .before .before .before .minutes-hold .ensures) ∙ not-false _ (c .before .before .before .before .before .before .before .before .if1 .left)) (c .before .before .before .before .before .before .before .if2 .left) (sym (c .before .before .before .before .before .before .readings-hold .ensures) ∙ not-false _ (c .before .before .before .before .before .if3 .left)) (sym (c .before .before .before .before .proportions-hold .ensures) ∙ not-false _ (c .before .before .before .if4 .left)) (sym (c .before .before .short-of .ensures) ∙ c .before .if5 .taken)
+returns-5 c =
+    let a = c .before .before .before .before .before .before .before .before .before .before .before .before .args in
+    c .hour-refused5 .ensures ∙ record-42 (a .day) (a .entry) (a .count) (a .start) (a .read) (a .place) (a .standing) (a .stands) (a .places) (sym (c .before .before .before .before .before .before .before .before .before .minutes-hold .ensures) ∙ not-false _ (c .before .before .before .before .before .before .before .before .if1 .left)) (c .before .before .before .before .before .before .before .if2 .left) (sym (c .before .before .before .before .before .before .readings-hold .ensures) ∙ not-false _ (c .before .before .before .before .before .if3 .left)) (sym (c .before .before .before .before .proportions-hold .ensures) ∙ not-false _ (c .before .before .before .if4 .left)) (sym (c .before .before .short-of .ensures) ∙ c .before .if5 .taken)
 
 settle-hour-requires : tie.Need-settle-hour-requires
-settle-hour-requires c κs = due-hour (c .before .before .before .before .before .before .before .before .before .before .before .args .day) (c .before .before .before .before .before .before .before .before .before .before .before .args .entry) (c .before .before .before .before .before .before .before .before .before .before .before .args .read) (c .before .before .before .before .before .before .before .before .before .before .before .pre)
+settle-hour-requires c κs =
+    let a = c .before .before .before .before .before .before .before .before .before .before .before .args in
+    due-hour (a .day) (a .entry) (a .read) (c .before .before .before .before .before .before .before .before .before .before .before .pre)
 
 post-hour-requires : tie.Need-post-hour-requires
-post-hour-requires c κs = rw (c .settle-hour .ensures) (due-posted (c .before .before .before .before .before .before .before .before .before .before .before .before .args .day) (c .before .before .before .before .before .before .before .before .before .before .before .before .args .entry) (c .before .before .before .before .before .before .before .before .before .before .before .before .args .read) (c .before .before .before .before .before .before .before .before .before .before .before .before .pre))
+post-hour-requires c κs =
+    let a = c .before .before .before .before .before .before .before .before .before .before .before .before .args in
+    rw (c .settle-hour .ensures) (due-posted (a .day) (a .entry) (a .read) (c .before .before .before .before .before .before .before .before .before .before .before .before .pre))
 
 returns-6 : tie.Need-returns-6
 returns-6 c =
+    let a = c .before .before .before .before .before .before .before .before .before .before .before .before .before .args in
     c .post-hour .ensures
-    ∙ rw (c .before .settle-hour .ensures) (record-done (c .before .before .before .before .before .before .before .before .before .before .before .before .before .args .day) (c .before .before .before .before .before .before .before .before .before .before .before .before .before .args .entry) (c .before .before .before .before .before .before .before .before .before .before .before .before .before .args .count) (c .before .before .before .before .before .before .before .before .before .before .before .before .before .args .start) (c .before .before .before .before .before .before .before .before .before .before .before .before .before .args .read) (c .before .before .before .before .before .before .before .before .before .before .before .before .before .args .place) (c .before .before .before .before .before .before .before .before .before .before .before .before .before .args .standing) (c .before .before .before .before .before .before .before .before .before .before .before .before .before .args .stands) (c .before .before .before .before .before .before .before .before .before .before .before .before .before .args .places) (sym (c .before .before .before .before .before .before .before .before .before .before .minutes-hold .ensures) ∙ not-false _ (c .before .before .before .before .before .before .before .before .before .if1 .left)) (c .before .before .before .before .before .before .before .before .if2 .left) (sym (c .before .before .before .before .before .before .before .readings-hold .ensures) ∙ not-false _ (c .before .before .before .before .before .before .if3 .left)) (sym (c .before .before .before .before .before .proportions-hold .ensures) ∙ not-false _ (c .before .before .before .before .if4 .left)) (sym (c .before .before .before .short-of .ensures) ∙ c .before .before .if5 .left))
+    ∙ rw (c .before .settle-hour .ensures) (record-done (a .day) (a .entry) (a .count) (a .start) (a .read) (a .place) (a .standing) (a .stands) (a .places) (sym (c .before .before .before .before .before .before .before .before .before .before .minutes-hold .ensures) ∙ not-false _ (c .before .before .before .before .before .before .before .before .before .if1 .left)) (c .before .before .before .before .before .before .before .before .if2 .left) (sym (c .before .before .before .before .before .before .before .readings-hold .ensures) ∙ not-false _ (c .before .before .before .before .before .before .if3 .left)) (sym (c .before .before .before .before .before .proportions-hold .ensures) ∙ not-false _ (c .before .before .before .before .if4 .left)) (sym (c .before .before .before .short-of .ensures) ∙ c .before .before .if5 .left))
 
 pub decide-record-spec : {M : Type 1} → statement M
 decide-record-spec =

@@ -15,13 +15,17 @@ hour-refused-requires : tie.Need-hour-refused-requires
 hour-refused-requires c κs = search needs
 
 returns : tie.Need-returns
-returns c = c .hour-refused .ensures ∙ void-10 (c .before .before .before .before .args .day) (c .before .before .before .before .args .entry) (c .before .before .before .before .args .count) (c .before .before .before .before .args .start) (c .before .before .before .before .args .hour) (c .before .before .before .before .args .places) (sym (c .before .before .hour-bad .ensures) ∙ c .before .if1 .taken)
+returns c =
+    let a = c .before .before .before .before .args in
+    c .hour-refused .ensures ∙ void-10 (a .day) (a .entry) (a .count) (a .start) (a .hour) (a .places) (sym (c .before .before .hour-bad .ensures) ∙ c .before .if1 .taken)
 
 hour-refused-requires-2 : tie.Need-hour-refused-requires-2
 hour-refused-requires-2 c κs = search needs
 
 returns-2 : tie.Need-returns-2
-returns-2 c = c .hour-refused2 .ensures ∙ void-41 (c .before .before .before .before .before .before .args .day) (c .before .before .before .before .before .before .args .entry) (c .before .before .before .before .before .before .args .count) (c .before .before .before .before .before .before .args .start) (c .before .before .before .before .before .before .args .hour) (c .before .before .before .before .before .before .args .places) (sym (c .before .before .before .before .hour-bad .ensures) ∙ c .before .before .before .if1 .left) (ne-eqb _ _ (c .before .if2 .taken))
+returns-2 c =
+    let a = c .before .before .before .before .before .before .args in
+    c .hour-refused2 .ensures ∙ void-41 (a .day) (a .entry) (a .count) (a .start) (a .hour) (a .places) (sym (c .before .before .before .before .hour-bad .ensures) ∙ c .before .before .before .if1 .left) (ne-eqb _ _ (c .before .if2 .taken))
 
 short-of-requires : tie.Need-short-of-requires
 short-of-requires c κs = search needs
@@ -30,7 +34,9 @@ hour-refused-requires-3 : tie.Need-hour-refused-requires-3
 hour-refused-requires-3 c κs = search needs
 
 returns-3 : tie.Need-returns-3
-returns-3 c = c .hour-refused3 .ensures ∙ void-42 (c .before .before .before .before .before .before .before .before .args .day) (c .before .before .before .before .before .before .before .before .args .entry) (c .before .before .before .before .before .before .before .before .args .count) (c .before .before .before .before .before .before .before .before .args .start) (c .before .before .before .before .before .before .before .before .args .hour) (c .before .before .before .before .before .before .before .before .args .places) (sym (c .before .before .before .before .before .before .hour-bad .ensures) ∙ c .before .before .before .before .before .if1 .left) (eq-eqb _ _ (c .before .before .before .if2 .left)) (sym (c .before .before .short-of .ensures) ∙ c .before .if3 .taken)
+returns-3 c =
+    let a = c .before .before .before .before .before .before .before .before .args in
+    c .hour-refused3 .ensures ∙ void-42 (a .day) (a .entry) (a .count) (a .start) (a .hour) (a .places) (sym (c .before .before .before .before .before .before .hour-bad .ensures) ∙ c .before .before .before .before .before .if1 .left) (eq-eqb _ _ (c .before .before .before .if2 .left)) (sym (c .before .before .short-of .ensures) ∙ c .before .if3 .taken)
 
 no-result-requires : tie.Need-no-result-requires
 no-result-requires c κs = search needs
@@ -42,8 +48,9 @@ post-hour-requires c κs =
 
 returns-4 : tie.Need-returns-4
 returns-4 c =
+    let a = c .before .before .before .before .before .before .before .before .before .args in
     c .post-hour .ensures
-    ∙ rw (c .before .no-result .ensures) (void-done (c .before .before .before .before .before .before .before .before .before .args .day) (c .before .before .before .before .before .before .before .before .before .args .entry) (c .before .before .before .before .before .before .before .before .before .args .count) (c .before .before .before .before .before .before .before .before .before .args .start) (c .before .before .before .before .before .before .before .before .before .args .hour) (c .before .before .before .before .before .before .before .before .before .args .places) (sym (c .before .before .before .before .before .before .before .hour-bad .ensures) ∙ c .before .before .before .before .before .before .if1 .left) (eq-eqb _ _ (c .before .before .before .before .if2 .left)) (sym (c .before .before .before .short-of .ensures) ∙ c .before .before .if3 .left))
+    ∙ rw (c .before .no-result .ensures) (void-done (a .day) (a .entry) (a .count) (a .start) (a .hour) (a .places) (sym (c .before .before .before .before .before .before .before .hour-bad .ensures) ∙ c .before .before .before .before .before .before .if1 .left) (eq-eqb _ _ (c .before .before .before .before .if2 .left)) (sym (c .before .before .before .short-of .ensures) ∙ c .before .before .if3 .left))
 
 pub decide-void-spec : {M : Type 1} → statement M
 decide-void-spec =

@@ -1,30 +1,19 @@
 -- After k turns the energies and amounts of the first k places are stored; the commitments and marks stay.
 -- Assumes nothing.
 use Prim.Native.Nat.{ℕ, _+_, _-_, _≤_, _<_}
-use mathlib.Core.Path.{_≡_, refl, sym, _∙_, subst}
-use mathlib.Core.List.{List}
-use lib.ListN.{set, length-map}
+use mathlib.Core.Path.{_≡_, sym, _∙_, subst}
 use mathlib.Core.Logic.{⊎-elim}
 use native.Mathlib.Omega.{arith}
-use Rattle.settlement.specs.declared.HourResult.{HourResult}
+use lib.ListN.{set, length-map}
 use Rattle.state.specs.declared.Book.{Book}
 use Rattle.state.specs.Sizes.{places}
-use Rattle.state.specs.Book.{noGrains, pastAmounts, withHour}
-use Rattle.state.proofs.Entries.{Stored, stored-none, stored-in, stored-out, stored-all}
+use Rattle.state.proofs.Hour.{After, after-none, after-in, after-out, after-all}
 use borrow.Author.Needs.{needs}
 use Rattle.state.proofs.with_hour.Statement.{statement}
 use Rattle.state.proofs.with_hour.Tie as tie
 
--- the book after the first n places
-abbrev After : ℕ → ℕ → HourResult → Book → List ℕ → ℕ → Book → Type 0
-After h units r old marks n b =
-    (b .commitment ≡ old .commitment)
-    × (b .mark ≡ marks)
-    × Stored noGrains h units (r .energy) (old .energy) n (b .energy)
-    × Stored pastAmounts h units (r .amounts) (old .amounts) n (b .amounts)
-
 abbrev Inv-loop : tie.InvT-loop
-Inv-loop h mark units result b₀ k₀ b k = (k ≤ places) × After h units result b₀ (b₀ .mark) k b
+Inv-loop h mark units result b₀ k₀ b k = (k ≤ places) × After h units result b₀ k b
 
 abbrev μ-loop : tie.MeasureT-loop
 μ-loop h mark units result b₀ k₀ b k = places - k
@@ -37,15 +26,7 @@ element-write-b c = search needs
 
 loop-holds : tie.Need-loop-holds Inv-loop μ-loop
 loop-holds c =
-    let a = c .args in (
-      omega arith,
-      (
-        refl,
-        refl,
-        stored-none noGrains (a .h) (a .units) (a .t5 .energy) (a .book .energy) (simp length-map at (c .good .0 .1 .1 .1 .1 .0 .1 .0 .1)),
-        stored-none pastAmounts (a .h) (a .units) (a .t5 .amounts) (a .book .amounts) (simp length-map at (c .good .0 .1 .1 .1 .1 .1 .0 .1 .0 .1)),
-      ),
-    )
+    (omega arith, after-none _ _ _ _ (simp length-map at (c .good .0 .1 .1 .1 .1 .0 .1 .0 .1)) (simp length-map at (c .good .0 .1 .1 .1 .1 .1 .0 .1 .0 .1)))
 
 member-at-requires : tie.Need-member-at-requires Inv-loop μ-loop
 member-at-requires c κs = search needs
@@ -95,45 +76,21 @@ loop-less c = search needs
 loop-again : tie.Need-loop-again Inv-loop μ-loop
 loop-again c =
     let l = c .before .before .before .loop in
-    let a = c .before .before .before .before .args in
-    let r = a .t5 in
-    let s = l .inv .1 in
     let below : l .k < places = omega arith in (
       omega arith,
       ⊎-elim
-          (λ w.
-          let m = sym (c .before .member-at .ensures) ∙ w .0 .taken in
-          subst (λ (b : Book). After (a .h) (a .units) r (a .book) (set (a .book .mark) (a .h) (a .mark)) (l .k + 1) b) (sym (w .3)) (
-            s .0,
-            s .1,
-            stored-in noGrains (a .h) (a .units) (r .energy) (a .book .energy) (l .k) (l .b .energy) (s .2) below (omega arith) m,
-            stored-in pastAmounts (a .h) (a .units) (r .amounts) (a .book .amounts) (l .k) (l .b .amounts) (s .3) below (omega arith) m,
-          ))
-          (λ w.
-          let m = sym (c .before .member-at .ensures) ∙ w .0 .left in
-          subst (λ (b : Book). After (a .h) (a .units) r (a .book) (set (a .book .mark) (a .h) (a .mark)) (l .k + 1) b) (sym (w .1)) (
-            s .0,
-            s .1,
-            stored-out noGrains (a .h) (a .units) (r .energy) (a .book .energy) (l .k) (l .b .energy) (s .2) below m,
-            stored-out pastAmounts (a .h) (a .units) (r .amounts) (a .book .amounts) (l .k) (l .b .amounts) (s .3) below m,
-          ))
+          (λ w. subst (After _ _ _ _ (l .k + 1)) (sym (w .3)) (after-in _ _ _ _ (l .k) (l .b) (l .inv .1) below (c .before .before .before .before .pre) (sym (c .before .member-at .ensures) ∙ w .0 .taken)))
+          (λ w. subst (After _ _ _ _ (l .k + 1)) (sym (w .1)) (after-out _ _ _ _ (l .k) (l .b) (l .inv .1) below (sym (c .before .member-at .ensures) ∙ w .0 .left)))
           (c .if1 .came),
     )
 
 returns : tie.Need-returns Inv-loop μ-loop
-unfolding withHour
 returns c =
     let l = c .before .loop in
     let a = c .before .before .args in
-    let r = a .t5 in
-    let all : l .k ≡ places = omega arith in
-    let s = subst (λ (n : ℕ). After (a .h) (a .units) r (a .book) (set (a .book .mark) (a .h) (a .mark)) n (l .b)) all (l .inv .1) in
-    λ i. record {
-      commitment = s .0 i;
-      mark = s .1 i;
-      energy = stored-all noGrains (a .h) (a .units) (r .energy) (a .book .energy) (l .b .energy) (s .2) i;
-      amounts = stored-all pastAmounts (a .h) (a .units) (r .amounts) (a .book .amounts) (l .b .amounts) (s .3) i;
-    }
+    let all : l .k ≡ places = omega (arith, l .inv .0) in
+    let marked : Book = record { commitment = a .book .commitment; mark = set (a .book .mark) (a .h) (a .mark); energy = a .book .energy; amounts = a .book .amounts } in
+    after-all (a .h) (a .units) (a .mark) (a .t5) (a .book) (l .b) (subst (λ (n : ℕ). After (a .h) (a .units) (a .t5) marked n (l .b)) all (l .inv .1))
 
 pub with-hour-spec : {M : Type 1} → statement M
 with-hour-spec =
