@@ -41,7 +41,7 @@ fn scan(list: &mut [Posting], count: u64, unit: u64, item: u64) -> Scanned
 }
 
 // The first n rows of a plan go to the places from `at` on.
-pub fn append(list: &mut [Posting], at: usize, plan: Plan, n: usize)
+fn append(list: &mut [Posting], at: usize, plan: Plan, n: usize)
     requires { ⌜ (n ≤ 40) × (n ≤ length (now list) - at) ⌝ }
     ensures { λ _. ⌜ now (list .exit) ≡ posted (now (list .entry)) at plan n ⌝ }
 {

@@ -89,7 +89,7 @@ pub fn amounts_at(book: Book, h: usize, k: usize) -> Amounts
 }
 
 // An hour's commitments, by place.
-pub fn hour_commitments(book: Book, h: usize) -> [HubKwh; 8]
+fn hour_commitments(book: Book, h: usize) -> [HubKwh; 8]
     requires { ⌜ h < hours ⌝ }
     ensures { λ r. ⌜ r ≡ hourCommitments book h ⌝ }
 {
@@ -105,7 +105,7 @@ pub fn hour_commitments(book: Book, h: usize) -> [HubKwh; 8]
 }
 
 // An hour's amounts, by place.
-pub fn hour_amounts(book: Book, h: usize) -> [Amounts; 8]
+fn hour_amounts(book: Book, h: usize) -> [Amounts; 8]
     requires { ⌜ h < hours ⌝ }
     ensures { λ r. ⌜ r ≡ hourAmounts book h ⌝ }
 {
