@@ -68,6 +68,10 @@ listedTo l list (suc k) = postingStored (listedTo l list k) k (getD list k noPos
 abbrev pub mostPlaces : ℕ
 mostPlaces = 100040
 
+-- a short journal list, which most calls do with
+abbrev pub fewPlaces : ℕ
+fewPlaces = 2560
+
 -- "Demand 3's calls share one list of places, of any length and contents, with count 0 at first": here of `places` places, all empty
 unfoldable pub ownStart : (places : ℕ) → List ℕ → Running
 ownStart places answers = record { list = replicate places noPosting; answers = answers; ran = startRan }

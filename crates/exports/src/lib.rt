@@ -5,7 +5,7 @@ ghost use lib.ListN.{length, set};
 ghost use Rattle.decimal.specs.Output.{output, filled};
 ghost use Rattle.listing.specs.Listing.{mostBytes};
 ghost use Rattle.account.specs.Statement.{statementOf};
-ghost use Rattle.exports.specs.Exports.{commitmentNumbers, markNumbers, energyNumbers, heldNumbers, itemNumbers, amountNumbers, signedOf, postingStored, listedTo, mostPlaces, Owned, ownedOf, Left, calledOf};
+ghost use Rattle.exports.specs.Exports.{commitmentNumbers, markNumbers, energyNumbers, heldNumbers, itemNumbers, amountNumbers, signedOf, postingStored, listedTo, fewPlaces, mostPlaces, Owned, ownedOf, Left, calledOf};
 use energy::HubGrains;
 use energy::HubKwh;
 use journal::Ran;
@@ -160,6 +160,47 @@ fn owned(
     ran
 }
 
+// The same over a short list, whose array is filled in a fraction of the time.
+fn owned_few(
+    sheet: Sheet,
+    places: usize,
+    calls: &[u64],
+    text: &[u8],
+    answers: &mut [u64],
+    out: &mut [i64],
+) -> Ran
+    requires { ⌜ places ≤ fewPlaces ⌝ }
+    ensures { λ r. ⌜ record { ran = r; answers = now (answers .exit); postings = now (out .exit) } ≡ ownedOf sheet places (now (calls .entry)) (now (text .entry)) (now (answers .entry)) (now (out .entry)) ⌝ }
+{
+    let mut list = [Posting {
+        hour: 0,
+        unit: 0,
+        item: 0,
+        amount: 0,
+    }; 2560];
+    let ran = journal::run(&mut list[..places], sheet, calls, text, answers);
+    listed(&mut list[..places], out);
+    ran
+}
+
+// The same, with the short list where that holds the places.
+fn carried_out(
+    sheet: Sheet,
+    places: usize,
+    calls: &[u64],
+    text: &[u8],
+    answers: &mut [u64],
+    out: &mut [i64],
+) -> Ran
+    requires { ⌜ places ≤ mostPlaces ⌝ }
+    ensures { λ r. ⌜ record { ran = r; answers = now (answers .exit); postings = now (out .exit) } ≡ ownedOf sheet places (now (calls .entry)) (now (text .entry)) (now (answers .entry)) (now (out .entry)) ⌝ }
+{
+    if places <= 2560 {
+        return owned_few(sheet, places, calls, text, answers, out);
+    }
+    owned(sheet, places, calls, text, answers, out)
+}
+
 // The length of a journal list.
 fn length_of(places: u64) -> usize
     ensures { λ r. ⌜ r ≡ min places mostPlaces ⌝ }
@@ -197,7 +238,7 @@ pub extern "C" fn gozalvek_calls(
         }
         ReadAnswer::Read(_) => {
             let n = length_of(places);
-            let ran = owned(day_sheet, n, calls, text, answers, postings);
+            let ran = carried_out(day_sheet, n, calls, text, answers, postings);
             let book = ran.book;
             *line = 0;
             *count = ran.count;

@@ -8,7 +8,7 @@ use Rattle.exports.proofs.gozalvek_calls.Tie as tie
 use Rattle.exports.proofs.gozalvek_calls.Reads as reads
 use Rattle.exports.proofs.gozalvek_calls.Lts as lts
 use Rattle.exports.proofs.length_of.Reads as length-of-reads
-use Rattle.exports.proofs.owned.Reads as owned-reads
+use Rattle.exports.proofs.carried_out.Reads as carried-out-reads
 use Rattle.exports.proofs.put_amounts.Reads as put-amounts-reads
 use Rattle.exports.proofs.put_held.Reads as put-held-reads
 use Rattle.lines.proofs.text_line.Reads as text-line-reads
@@ -40,8 +40,8 @@ length-of-requires : tie.Need-length-of-requires
 length-of-requires c κs = search needs
 
 -- src/lib.rt:197:17
-owned-requires : tie.Need-owned-requires
-owned-requires c κs = omega (arith, c .before .before .length-of .ensures)
+carried-out-requires : tie.Need-carried-out-requires
+carried-out-requires c κs = omega (arith, c .before .before .length-of .ensures)
 
 -- src/lib.rt:201:13
 put-held-requires : tie.Need-put-held-requires
@@ -77,7 +77,7 @@ same-length-4 c = search needs
 returns-2 : tie.Need-returns-2
 returns-2 c =
     let a = c .before .before .before .before .before .before .before .before .before .before .before .before .before .before .before .before .before .before .before .before .before .before .before .before .args in
-    called-read (a .sheet .now) (a .places) (a .calls .now) (a .text .now) (a .answers .now) (a .held .now) (a .amounts .now) (a .postings .now) _ (c .before .before .before .before .before .before .before .before .before .before .before .before .before .before .before .before .before .before .read-sheet .ensures) _ _ _ _ _ (c .before .before .before .before .before .before .before .before .before .before .before .before .before .before .before .enum-told .given .1) (c .before .before .before .before .before .before .before .before .before .before .before .before .before .before .length-of .ensures) (c .before .before .before .before .before .before .before .before .before .before .before .owned .ensures) (c .before .before .before .before .before .put-held .ensures) (c .before .put-amounts .ensures)
+    called-read (a .sheet .now) (a .places) (a .calls .now) (a .text .now) (a .answers .now) (a .held .now) (a .amounts .now) (a .postings .now) _ (c .before .before .before .before .before .before .before .before .before .before .before .before .before .before .before .before .before .before .read-sheet .ensures) _ _ _ _ _ (c .before .before .before .before .before .before .before .before .before .before .before .before .before .before .before .enum-told .given .1) (c .before .before .before .before .before .before .before .before .before .before .before .before .before .before .length-of .ensures) (c .before .before .before .before .before .before .before .before .before .before .before .carried-out .ensures) (c .before .before .before .before .before .put-held .ensures) (c .before .put-amounts .ensures)
 
 pub gozalvek-calls-spec : {M : Type 1} → statement M
 gozalvek-calls-spec =
@@ -89,7 +89,7 @@ gozalvek-calls-spec =
     text-number-requires
     enum-told
     length-of-requires
-    owned-requires
+    carried-out-requires
     put-held-requires
     put-amounts-requires
     returns
