@@ -5,75 +5,51 @@ use Rattle.exports.proofs.Called.{called-refused, called-read}
 use borrow.Author.Needs.{needs}
 use Rattle.exports.proofs.gozalvek_calls.Statement.{statement}
 use Rattle.exports.proofs.gozalvek_calls.Tie as tie
-use Rattle.exports.proofs.gozalvek_calls.Reads as reads
-use Rattle.exports.proofs.gozalvek_calls.Lts as lts
-use Rattle.exports.proofs.length_of.Reads as length-of-reads
-use Rattle.exports.proofs.carried_out.Reads as carried-out-reads
-use Rattle.exports.proofs.put_amounts.Reads as put-amounts-reads
-use Rattle.exports.proofs.put_held.Reads as put-held-reads
-use Rattle.lines.proofs.text_line.Reads as text-line-reads
-use Rattle.lines.proofs.text_number.Reads as text-number-reads
-use Rattle.sheet.proofs.read_sheet.Reads as read-sheet-reads
 
--- src/lib.rt:186:9
 read-sheet-requires : tie.Need-read-sheet-requires
 read-sheet-requires c κs = search needs
 
--- src/lib.rt:190:29
 enum-known-answer : tie.Need-enum-known-answer
 enum-known-answer c = search needs
 
--- src/lib.rt:191:21
 text-line-requires : tie.Need-text-line-requires
 text-line-requires c κs = search needs
 
--- src/lib.rt:193:13
 text-number-requires : tie.Need-text-number-requires
 text-number-requires c κs = search needs
 
--- src/lib.rt:196:17
 enum-told : tie.Need-enum-told
 enum-told c = search needs
 
--- src/lib.rt:196:17
 length-of-requires : tie.Need-length-of-requires
 length-of-requires c κs = search needs
 
--- src/lib.rt:197:17
 carried-out-requires : tie.Need-carried-out-requires
 carried-out-requires c κs = omega (arith, c .before .before .length-of .ensures)
 
--- src/lib.rt:201:13
 put-held-requires : tie.Need-put-held-requires
 put-held-requires c κs = search needs
 
--- src/lib.rt:202:13
 put-amounts-requires : tie.Need-put-amounts-requires
 put-amounts-requires c κs = search needs
 
--- src/lib.rt:171:1
 returns : tie.Need-returns
 returns c =
     let a = c .before .before .before .before .before .before .before .before .before .before .before .before .args in
     called-refused (a .sheet .now) (a .places) (a .calls .now) (a .text .now) (a .answers .now) (a .held .now) (a .amounts .now) (a .postings .now) _ (c .before .before .before .before .before .before .read-sheet .ensures) _ _ _ (c .before .before .before .answer .given .1) (c .text-number .ensures) (c .before .text-line .ensures)
 
--- src/lib.rt:171:1
 same-length : tie.Need-same-length
 same-length c = search needs
 
--- src/lib.rt:171:1
 same-length-2 : tie.Need-same-length-2
 same-length-2 c = search needs
 
--- src/lib.rt:171:1
 same-length-3 : tie.Need-same-length-3
 same-length-3 c = search needs
 
--- src/lib.rt:171:1
 same-length-4 : tie.Need-same-length-4
 same-length-4 c = search needs
 
--- src/lib.rt:171:1
 returns-2 : tie.Need-returns-2
 returns-2 c =
     let a = c .before .before .before .before .before .before .before .before .before .before .before .before .before .before .before .before .before .before .before .before .before .before .before .before .args in
