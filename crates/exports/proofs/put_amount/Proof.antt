@@ -6,26 +6,19 @@ use lib.Seq.{set-out}
 use borrow.Author.Needs.{needs}
 use Rattle.exports.proofs.put_amount.Statement.{statement}
 use Rattle.exports.proofs.put_amount.Tie as tie
-use Rattle.exports.proofs.put_amount.Reads as reads
-use Rattle.exports.proofs.put_amount.Lts as lts
 
--- src/lib.rt:24:9
 mul-x : tie.Need-mul-x
 mul-x c = search needs
 
--- src/lib.rt:24:9
 slice-set-from-x : tie.Need-slice-set-from-x
 slice-set-from-x c = search needs
 
--- src/lib.rt:20:1
 same-length : tie.Need-same-length
 same-length c = search needs
 
--- src/lib.rt:20:1
 returns : tie.Need-returns
 returns c = search needs
 
--- src/lib.rt:20:1
 returns-2 : tie.Need-returns-2
 returns-2 c = sym (set-out (c .before .args .out .now) (c .before .args .at) (c .before .args .x) (omega (arith, c .if1 .left)))
 

@@ -9,9 +9,6 @@ use Rattle.exports.proofs.Put.{amounts-none, amounts-next, amounts-leng
 use borrow.Author.Needs.{needs}
 use Rattle.exports.proofs.put_amounts.Statement.{statement}
 use Rattle.exports.proofs.put_amounts.Tie as tie
-use Rattle.exports.proofs.put_amounts.Reads as reads
-use Rattle.exports.proofs.put_amounts.Lts as lts
-use Rattle.exports.proofs.put_items.Reads as put-items-reads
 
 abbrev Inv-loop : tie.InvT-loop
 Inv-loop out₀ book k₀ out k = (k ≤ 192) × (out ≡ amountsTo book out₀ k)
@@ -19,42 +16,33 @@ Inv-loop out₀ book k₀ out k = (k ≤ 192) × (out ≡ amountsTo book out₀ 
 abbrev μ-loop : tie.MeasureT-loop
 μ-loop out₀ book k₀ out k = 192 - k
 
--- src/lib.rt:81:5
 loop-holds : tie.Need-loop-holds Inv-loop μ-loop
 loop-holds c = (omega arith, sym (amounts-none _ _))
 
--- src/lib.rt:82:17
 mul-a : tie.Need-mul-a Inv-loop μ-loop
 mul-a c = search needs
 
--- src/lib.rt:82:17
 element-copy-out-a : tie.Need-element-copy-out-a Inv-loop μ-loop
 element-copy-out-a c = search needs
 
--- src/lib.rt:83:9
 put-items-requires : tie.Need-put-items-requires Inv-loop μ-loop
 put-items-requires c κs = search needs
 
--- src/lib.rt:84:9
 add-k : tie.Need-add-k Inv-loop μ-loop
 add-k c = search needs
 
--- src/lib.rt:81:5
 loop-less : tie.Need-loop-less Inv-loop μ-loop
 loop-less c = search needs
 
--- src/lib.rt:81:5
 loop-again : tie.Need-loop-again Inv-loop μ-loop
 loop-again c =
     let l = c .before .before .before .before .before .loop in
     let n : l .k + 1 ≡ suc (l .k) = omega arith in
     (omega arith, c .before .put-items .ensures ∙ amounts-next _ _ (l .out) (l .k) (l .k + 1) (l .inv .1) n)
 
--- src/lib.rt:77:1
 same-length : tie.Need-same-length Inv-loop μ-loop
 same-length c = ap length (c .before .loop .inv .1) ∙ amounts-length _ _ _
 
--- src/lib.rt:77:1
 returns : tie.Need-returns Inv-loop μ-loop
 returns c =
     let l = c .before .loop in

@@ -10,9 +10,6 @@ use Rattle.exports.proofs.Put.{put-length, put-next, put-none, put-end}
 use borrow.Author.Needs.{needs}
 use Rattle.exports.proofs.put_commitments.Statement.{statement}
 use Rattle.exports.proofs.put_commitments.Tie as tie
-use Rattle.exports.proofs.put_commitments.Reads as reads
-use Rattle.exports.proofs.put_commitments.Lts as lts
-use Rattle.exports.proofs.put_number.Reads as put-number-reads
 
 abbrev Inv-loop : tie.InvT-loop
 Inv-loop out₀ book k₀ out k = (k ≤ 192) × (out ≡ put out₀ 0 (λ j. getD (book .commitment) j noKwh .0) k)
@@ -20,31 +17,24 @@ Inv-loop out₀ book k₀ out k = (k ≤ 192) × (out ≡ put out₀ 0 (λ j. ge
 abbrev μ-loop : tie.MeasureT-loop
 μ-loop out₀ book k₀ out k = 192 - k
 
--- src/lib.rt:33:5
 loop-holds : tie.Need-loop-holds Inv-loop μ-loop
 loop-holds c = (omega arith, sym (put-none _ _ _))
 
--- src/lib.rt:34:19
 mul-kwh : tie.Need-mul-kwh Inv-loop μ-loop
 mul-kwh c = search needs
 
--- src/lib.rt:34:19
 element-copy-out-kwh : tie.Need-element-copy-out-kwh Inv-loop μ-loop
 element-copy-out-kwh c = search needs
 
--- src/lib.rt:35:9
 put-number-requires : tie.Need-put-number-requires Inv-loop μ-loop
 put-number-requires c κs = search needs
 
--- src/lib.rt:36:9
 add-k : tie.Need-add-k Inv-loop μ-loop
 add-k c = search needs
 
--- src/lib.rt:33:5
 loop-less : tie.Need-loop-less Inv-loop μ-loop
 loop-less c = search needs
 
--- src/lib.rt:33:5
 loop-again : tie.Need-loop-again Inv-loop μ-loop
 loop-again c =
     let l = c .before .before .before .before .before .before .loop in
@@ -52,11 +42,9 @@ loop-again c =
     let n : l .k + 1 ≡ suc (l .k) = omega arith in
     (omega arith, c .before .before .put-number .ensures ∙ put-next _ (l .out) 0 _ (l .k) _ _ _ (l .inv .1) i refl n)
 
--- src/lib.rt:29:1
 same-length : tie.Need-same-length Inv-loop μ-loop
 same-length c = ap length (c .before .loop .inv .1) ∙ put-length _ _ _ _
 
--- src/lib.rt:29:1
 returns : tie.Need-returns Inv-loop μ-loop
 returns c =
     let l = c .before .loop in

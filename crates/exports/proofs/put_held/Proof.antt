@@ -7,30 +7,20 @@ use Rattle.exports.proofs.Put.{put-length}
 use borrow.Author.Needs.{needs}
 use Rattle.exports.proofs.put_held.Statement.{statement}
 use Rattle.exports.proofs.put_held.Tie as tie
-use Rattle.exports.proofs.put_held.Reads as reads
-use Rattle.exports.proofs.put_held.Lts as lts
-use Rattle.exports.proofs.put_commitments.Reads as put-commitments-reads
-use Rattle.exports.proofs.put_energies.Reads as put-energies-reads
-use Rattle.exports.proofs.put_marks.Reads as put-marks-reads
 
--- src/lib.rt:92:5
 put-commitments-requires : tie.Need-put-commitments-requires
 put-commitments-requires c κs = search needs
 
--- src/lib.rt:93:5
 put-marks-requires : tie.Need-put-marks-requires
 put-marks-requires c κs = search needs
 
--- src/lib.rt:94:5
 put-energies-requires : tie.Need-put-energies-requires
 put-energies-requires c κs = search needs
 
--- src/lib.rt:89:1
 same-length : tie.Need-same-length
 same-length c =
     ap length (c .before .before .put-energies .ensures) ∙ (put-length _ _ _ _ ∙ (ap length (c .before .before .before .before .before .before .put-marks .ensures) ∙ (put-length _ _ _ _ ∙ (ap length (c .before .before .before .before .before .before .before .before .before .before .put-commitments .ensures) ∙ put-length _ _ _ _))))
 
--- src/lib.rt:89:1
 returns : tie.Need-returns
 returns c =
     let b = c .before .before .before .before .before .before .before .before .before .before .before .before .before .args .book in

@@ -11,9 +11,6 @@ use Rattle.exports.proofs.Put.{put-length, put-next, put-none, put-end}
 use borrow.Author.Needs.{needs}
 use Rattle.exports.proofs.put_items.Statement.{statement}
 use Rattle.exports.proofs.put_items.Tie as tie
-use Rattle.exports.proofs.put_items.Reads as reads
-use Rattle.exports.proofs.put_items.Lts as lts
-use Rattle.exports.proofs.put_amount.Reads as put-amount-reads
 
 abbrev Inv-loop : tie.InvT-loop
 Inv-loop out₀ at amounts i₀ out i = (i ≤ 5) × (out ≡ put out₀ (5 * at) (itemOf amounts) i)
@@ -21,50 +18,39 @@ Inv-loop out₀ at amounts i₀ out i = (i ≤ 5) × (out ≡ put out₀ (5 * at
 abbrev μ-loop : tie.MeasureT-loop
 μ-loop out₀ at amounts i₀ out i = 5 - i
 
--- src/lib.rt:70:5
 loop-holds : tie.Need-loop-holds Inv-loop μ-loop
 loop-holds c = (omega arith, sym (put-none _ _ _))
 
--- src/lib.rt:71:25
 mul-put-amount : tie.Need-mul-put-amount Inv-loop μ-loop
 mul-put-amount c = search needs
 
--- src/lib.rt:71:25
 add-put-amount : tie.Need-add-put-amount Inv-loop μ-loop
 add-put-amount c = search needs
 
--- src/lib.rt:71:37
 mul-put-amount-2 : tie.Need-mul-put-amount-2 Inv-loop μ-loop
 mul-put-amount-2 c = search needs
 
--- src/lib.rt:71:37
 element-copy-out-put-amount : tie.Need-element-copy-out-put-amount Inv-loop μ-loop
 element-copy-out-put-amount c = search needs
 
--- src/lib.rt:71:9
 put-amount-requires : tie.Need-put-amount-requires Inv-loop μ-loop
 put-amount-requires c κs = search needs
 
--- src/lib.rt:72:9
 add-i : tie.Need-add-i Inv-loop μ-loop
 add-i c = search needs
 
--- src/lib.rt:70:5
 loop-less : tie.Need-loop-less Inv-loop μ-loop
 loop-less c = search needs
 
--- src/lib.rt:70:5
 loop-again : tie.Need-loop-again Inv-loop μ-loop
 loop-again c =
     let l = c .before .before .before .before .before .loop in
     let n : l .i + 1 ≡ suc (l .i) = omega arith in
     (omega arith, c .before .put-amount .ensures ∙ put-next _ (l .out) _ _ (l .i) _ _ _ (l .inv .1) refl (back (itemOf (c .before .before .before .before .before .before .args .t3) (l .i)) (c .before .before .put-amount-arg2 .given)) n)
 
--- src/lib.rt:65:1
 same-length : tie.Need-same-length Inv-loop μ-loop
 same-length c = ap length (c .before .loop .inv .1) ∙ put-length _ _ _ _
 
--- src/lib.rt:65:1
 returns : tie.Need-returns Inv-loop μ-loop
 returns c =
     let l = c .before .loop in

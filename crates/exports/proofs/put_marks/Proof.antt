@@ -9,9 +9,6 @@ use Rattle.exports.proofs.Put.{put-length, put-next, put-none, put-end}
 use borrow.Author.Needs.{needs}
 use Rattle.exports.proofs.put_marks.Statement.{statement}
 use Rattle.exports.proofs.put_marks.Tie as tie
-use Rattle.exports.proofs.put_marks.Reads as reads
-use Rattle.exports.proofs.put_marks.Lts as lts
-use Rattle.exports.proofs.put_number.Reads as put-number-reads
 
 abbrev Inv-loop : tie.InvT-loop
 Inv-loop out₀ book k₀ out k = (k ≤ 24) × (out ≡ put out₀ 192 (λ j. getD (book .mark) j 0) k)
@@ -19,35 +16,27 @@ Inv-loop out₀ book k₀ out k = (k ≤ 24) × (out ≡ put out₀ 192 (λ j. g
 abbrev μ-loop : tie.MeasureT-loop
 μ-loop out₀ book k₀ out k = 24 - k
 
--- src/lib.rt:45:5
 loop-holds : tie.Need-loop-holds Inv-loop μ-loop
 loop-holds c = (omega arith, sym (put-none _ _ _))
 
--- src/lib.rt:46:25
 add-put-number : tie.Need-add-put-number Inv-loop μ-loop
 add-put-number c = search needs
 
--- src/lib.rt:46:34
 mul-put-number : tie.Need-mul-put-number Inv-loop μ-loop
 mul-put-number c = search needs
 
--- src/lib.rt:46:34
 element-copy-out-put-number : tie.Need-element-copy-out-put-number Inv-loop μ-loop
 element-copy-out-put-number c = search needs
 
--- src/lib.rt:46:9
 put-number-requires : tie.Need-put-number-requires Inv-loop μ-loop
 put-number-requires c κs = search needs
 
--- src/lib.rt:47:9
 add-k : tie.Need-add-k Inv-loop μ-loop
 add-k c = search needs
 
--- src/lib.rt:45:5
 loop-less : tie.Need-loop-less Inv-loop μ-loop
 loop-less c = search needs
 
--- src/lib.rt:45:5
 loop-again : tie.Need-loop-again Inv-loop μ-loop
 loop-again c =
     let l = c .before .before .before .before .before .before .loop in
@@ -55,11 +44,9 @@ loop-again c =
     let n : l .k + 1 ≡ suc (l .k) = omega arith in
     (omega arith, c .before .before .put-number .ensures ∙ put-next _ (l .out) 192 _ (l .k) _ _ _ (l .inv .1) i refl n)
 
--- src/lib.rt:41:1
 same-length : tie.Need-same-length Inv-loop μ-loop
 same-length c = ap length (c .before .loop .inv .1) ∙ put-length _ _ _ _
 
--- src/lib.rt:41:1
 returns : tie.Need-returns Inv-loop μ-loop
 returns c =
     let l = c .before .loop in

@@ -6,26 +6,19 @@ use lib.Seq.{set-out}
 use borrow.Author.Needs.{needs}
 use Rattle.exports.proofs.put_number.Statement.{statement}
 use Rattle.exports.proofs.put_number.Tie as tie
-use Rattle.exports.proofs.put_number.Reads as reads
-use Rattle.exports.proofs.put_number.Lts as lts
 
--- src/lib.rt:16:9
 mul-out : tie.Need-mul-out
 mul-out c = search needs
 
--- src/lib.rt:16:9
 slice-write-out : tie.Need-slice-write-out
 slice-write-out c = search needs
 
--- src/lib.rt:12:1
 same-length : tie.Need-same-length
 same-length c = search needs
 
--- src/lib.rt:12:1
 returns : tie.Need-returns
 returns c = search needs
 
--- src/lib.rt:12:1
 returns-2 : tie.Need-returns-2
 returns-2 c = sym (set-out (c .before .args .out .now) (c .before .args .at) (c .before .args .x) (omega (arith, c .if1 .left)))
 

@@ -8,81 +8,60 @@ use Rattle.exports.proofs.Places.{stored-at, stored-past}
 use borrow.Author.Needs.{needs}
 use Rattle.exports.proofs.put_posting.Statement.{statement}
 use Rattle.exports.proofs.put_posting.Tie as tie
-use Rattle.exports.proofs.put_posting.Reads as reads
-use Rattle.exports.proofs.put_posting.Lts as lts
-use Rattle.exports.proofs.signed.Reads as signed-reads
 
--- src/lib.rt:115:18
 mul-at : tie.Need-mul-at
 mul-at c = search needs
 
--- src/lib.rt:116:19
 signed-requires : tie.Need-signed-requires
 signed-requires c κs = search needs
 
--- src/lib.rt:116:9
 mul-out : tie.Need-mul-out
 mul-out c = search needs
 
--- src/lib.rt:116:9
 slice-set-from-out : tie.Need-slice-set-from-out
 slice-set-from-out c = search needs
 
--- src/lib.rt:117:23
 signed-requires-2 : tie.Need-signed-requires-2
 signed-requires-2 c κs = search needs
 
--- src/lib.rt:117:13
 add-out : tie.Need-add-out
 add-out c = search needs
 
--- src/lib.rt:117:9
 mul-out-2 : tie.Need-mul-out-2
 mul-out-2 c = search needs
 
--- src/lib.rt:117:9
 slice-set-from-out-2 : tie.Need-slice-set-from-out-2
 slice-set-from-out-2 c = simp length-set (omega (arith, c .before .before .if1 .taken))
 
--- src/lib.rt:118:23
 signed-requires-3 : tie.Need-signed-requires-3
 signed-requires-3 c κs = search needs
 
--- src/lib.rt:118:13
 add-t12 : tie.Need-add-t12
 add-t12 c = search needs
 
--- src/lib.rt:118:9
 mul-t10 : tie.Need-mul-t10
 mul-t10 c = search needs
 
--- src/lib.rt:118:9
 slice-set-from-out-3 : tie.Need-slice-set-from-out-3
 slice-set-from-out-3 c = simp length-set (omega (arith, c .before .before .before .if1 .taken))
 
--- src/lib.rt:120:13
 add-amount : tie.Need-add-amount
 add-amount c = search needs
 
--- src/lib.rt:120:9
 mul-amount : tie.Need-mul-amount
 mul-amount c = search needs
 
--- src/lib.rt:120:9
 slice-set-from-amount : tie.Need-slice-set-from-amount
 slice-set-from-amount c = simp length-set (omega (arith, c .before .before .before .before .if1 .taken))
 
--- src/lib.rt:111:1
 same-length : tie.Need-same-length
 same-length c = simp length-set
 
--- src/lib.rt:111:1
 returns : tie.Need-returns
 returns c =
     let a = c .before .before .before .before .before .args in
     stored-at (a .out .now) (a .k) (a .x) _ _ _ _ (c .before .before .before .before .if1 .taken) (back _ (c .before .before .before .signed .ok) ∙ c .before .before .before .signed .ensures) (back _ (c .before .before .signed2 .ok) ∙ c .before .before .signed2 .ensures) (back _ (c .before .signed3 .ok) ∙ c .before .signed3 .ensures) (back (a .x .amount) (c .struct-told .given .1 .1 .1 .0 .1))
 
--- src/lib.rt:111:1
 returns-2 : tie.Need-returns-2
 returns-2 c = stored-past (c .before .args .out .now) (c .before .args .k) (c .before .args .x) (c .if1 .left)
 

@@ -7,18 +7,13 @@ use borrow.Author.Tests.{lt-ltb, le-ltb}
 use borrow.Author.Needs.{needs}
 use Rattle.exports.proofs.signed.Statement.{statement}
 use Rattle.exports.proofs.signed.Tie as tie
-use Rattle.exports.proofs.signed.Reads as reads
-use Rattle.exports.proofs.signed.Lts as lts
 
--- src/lib.rt:105:16
 cast-result : tie.Need-cast-result
 cast-result c = search needs
 
--- src/lib.rt:105:9
 returns : tie.Need-returns
 returns c = toZ-pos w64 (c .if1 .taken) ∙ sym (simp (lt-ltb (c .before .args .x) 9223372036854775808 (c .if1 .taken)))
 
--- src/lib.rt:101:1
 returns-2 : tie.Need-returns-2
 returns-2 c = sym (simp (le-ltb (c .before .args .x) 9223372036854775808 (c .if1 .left)))
 
