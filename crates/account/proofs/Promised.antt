@@ -14,13 +14,13 @@ use Rattle.state.specs.Book.{emptyBook}
 use Rattle.state.specs.Ranges.{bookHolds}
 use Rattle.postings.specs.declared.Posting.{Posting}
 use Rattle.postings.specs.Journal.{noPosting, countHolds, postedHold}
-use Rattle.book.specs.Ledger.{Call}
-use Rattle.book.specs.Requests.{callFor}
-use Rattle.book.specs.Calls.{State, Ran, bookFits, carriedOut, requestOf, ranFrom, begun as begunState}
+use Rattle.ledger.specs.Ledger.{Call}
+use Rattle.ledger.specs.Requests.{callFor}
+use Rattle.ledger.specs.Calls.{State, Ran, bookFits, carriedOut, requestOf, ranFrom, begun as begunState}
 use Rattle.book.specs.Sound.{Known}
-use Rattle.book.specs.Demand.{Demand}
-use Rattle.book.proofs.Onward.{ran-further}
-use Rattle.book.proofs.Promise.{promise}
+use Rattle.ledger.specs.Demand.{Demand}
+use Rattle.ledger.proofs.Onward.{ran-further}
+use Rattle.ledger.proofs.Promise.{promise}
 use Rattle.journal.specs.Journal.{performed}
 use Rattle.account.specs.Day.{dayAt, dayAfter, Running, turned, ranTo, ranOut, callsTo, stateOf, begun, dayCalls}
 use Rattle.account.specs.Reached.{Reached}

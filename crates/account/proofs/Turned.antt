@@ -9,8 +9,8 @@ use native.Mathlib.Omega.{arith}
 use borrow.Author.Tests.{ne-eqb}
 use lib.Dec.{eqb}
 use Rattle.sheet.specs.declared.Sheet.{Sheet}
-use Rattle.book.specs.declared.Answer.{Answer}
-use Rattle.book.specs.declared.Answer.the-variants.{Accepted, Posted, Refused}
+use Rattle.ledger.specs.declared.Answer.{Answer}
+use Rattle.ledger.specs.declared.Answer.the-variants.{Accepted, Posted, Refused}
 use Rattle.account.specs.declared.Next.{Next}
 use Rattle.account.specs.declared.Next.the-variants.{Ends, Bad, Asks}
 use Rattle.account.specs.Day.{nextAt, dueWith, answeredBy, dayAfter, Running, performedIn, turned, ranTo, ranOut}

@@ -15,14 +15,14 @@ use Rattle.settlement.specs.Hour.{hourSheet}
 use Rattle.state.specs.declared.Book.{Book}
 use Rattle.state.specs.Book.{emptyBook, hourEntry, withHour}
 use Rattle.postings.specs.Journal.{noPosting}
-use Rattle.book.specs.declared.Answer.{Answer}
-use Rattle.book.specs.declared.Answer.the-variants.{Accepted}
-use Rattle.book.specs.declared.Decision.{Decision}
+use Rattle.ledger.specs.declared.Answer.{Answer}
+use Rattle.ledger.specs.declared.Answer.the-variants.{Accepted}
+use Rattle.ledger.specs.declared.Decision.{Decision}
 use Rattle.book.specs.declared.HourDecision.{HourDecision}
-use Rattle.book.specs.declared.Request.{Request}
+use Rattle.ledger.specs.declared.Request.{Request}
 use Rattle.book.specs.declared.Shift.{Shift}
-use Rattle.book.specs.Calls.{decided, outcomeOf, requestOf}
-use Rattle.book.specs.Requests.{callFor}
+use Rattle.ledger.specs.Calls.{decided, outcomeOf, requestOf}
+use Rattle.ledger.specs.Requests.{callFor}
 use Rattle.book.specs.Commitments.{shiftIn, bookWith}
 use Rattle.book.specs.Hours.{postingPlace, knownIn, appliedTo}
 use Rattle.book.specs.Sound.{Known}

@@ -14,14 +14,14 @@ use Rattle.state.specs.declared.Book.{Book}
 use Rattle.state.specs.Book.{emptyBook}
 use Rattle.postings.specs.declared.Posting.{Posting}
 use Rattle.postings.specs.Journal.{noPosting}
-use Rattle.book.specs.declared.Asked.{Asked}
-use Rattle.book.specs.declared.Answer.{Answer}
-use Rattle.book.specs.declared.Answer.the-variants.{Accepted, Posted, Refused}
-use Rattle.book.specs.declared.Outcome.{Outcome}
-use Rattle.book.specs.Numbers.{refusalNumber}
-use Rattle.book.specs.Ledger.{Call}
-use Rattle.book.specs.Calls.{State, requestOf}
-use Rattle.book.specs.Requests.{callFor, noneAsked}
+use Rattle.ledger.specs.declared.Asked.{Asked}
+use Rattle.ledger.specs.declared.Answer.{Answer}
+use Rattle.ledger.specs.declared.Answer.the-variants.{Accepted, Posted, Refused}
+use Rattle.ledger.specs.declared.Outcome.{Outcome}
+use Rattle.ledger.specs.Numbers.{refusalNumber}
+use Rattle.ledger.specs.Ledger.{Call}
+use Rattle.ledger.specs.Calls.{State, requestOf}
+use Rattle.ledger.specs.Requests.{callFor, noneAsked}
 use Rattle.journal.specs.Journal.{Performed, performed}
 use Rattle.account.specs.declared.Next.{Next}
 use Rattle.account.specs.declared.Next.the-variants.{Ends, Bad, Asks}

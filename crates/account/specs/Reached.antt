@@ -9,10 +9,10 @@ use Rattle.sheet.specs.declared.Sheet.{Sheet}
 use Rattle.sheet.specs.Ranges.{sheetHolds}
 use Rattle.postings.specs.declared.Posting.{Posting}
 use Rattle.postings.specs.Journal.{noPosting}
-use Rattle.book.specs.declared.Decision.{Decision}
-use Rattle.book.specs.Ledger.{Call}
-use Rattle.book.specs.Calls.{requestOf, decided, ranFrom, begun as begunState}
-use Rattle.book.specs.Requests.{callFor}
+use Rattle.ledger.specs.declared.Decision.{Decision}
+use Rattle.ledger.specs.Ledger.{Call}
+use Rattle.ledger.specs.Calls.{requestOf, decided, ranFrom, begun as begunState}
+use Rattle.ledger.specs.Requests.{callFor}
 use Rattle.account.specs.declared.Day.{Day}
 use Rattle.account.specs.Day.{Running, stateOf, ranOut}
 

@@ -2,13 +2,13 @@
 // come, over a journal of 2,000 places.
 ghost use mathlib.Core.Path.{_≡_};
 ghost use Prim.Native.Nat.{_-_, _≤_};
-ghost use Rattle.book.specs.Requests.{noneAsked};
+ghost use Rattle.ledger.specs.Requests.{noneAsked};
 ghost use Rattle.decimal.specs.Output.{output, written, filled};
 ghost use Rattle.listing.specs.Listing.{mostBytes};
 ghost use Rattle.account.specs.Day.{takeRow, takeOf, settleOf, nextAt, noneDue, dueAt, answeredBy, takenDue, dayWith, dayFrom};
 ghost use Rattle.account.specs.Statement.{dayLines, statementOf};
-use book::Answer;
-use book::Asked;
+use ledger::Answer;
+use ledger::Asked;
 use lines::ReadAnswer;
 use sheet::Sheet;
 use state::Book;

@@ -9,7 +9,7 @@ use lib.ListN.{length, drop, getD}
 use Rattle.text.specs.declared.Row.{Row}
 use Rattle.text.specs.Text.{seek, before, has, valuePart, wordIs, keyIs}
 use Rattle.text.specs.Rows.{word, limits, valueOf}
-use Rattle.book.specs.declared.Asked.{Asked}
+use Rattle.ledger.specs.declared.Asked.{Asked}
 use Rattle.asks.specs.declared.Asking.{Asking}
 
 -- the kind of a call by its key; 0 for another key or no `=`

@@ -5,7 +5,7 @@ ghost use Prim.Native.Nat.{_+_, _<_, _≤_};
 ghost use lib.ListN.{length, drop};
 ghost use Rattle.asks.specs.Asks.{kindOf, numbersOf, rowOf, noAsked, notAsked, isEnd, behindRecord, kwhOf, askedOf, totalOf, nextOf, askingOf, askingAt};
 ghost use Rattle.asks.specs.Extent.{extentOf, lineEnd, lineEnds};
-use book::Asked;
+use ledger::Asked;
 use text::Line;
 use text::Row;
 

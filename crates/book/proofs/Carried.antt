@@ -20,19 +20,19 @@ use Rattle.sheet.specs.Ranges.{sheetHolds}
 use Rattle.state.specs.declared.Book.{Book}
 use Rattle.state.specs.Book.{noKwh, settledMark}
 use Rattle.state.specs.Ranges.{limitAt}
-use Rattle.book.specs.declared.Refusal.{Refusal}
-use Rattle.book.specs.declared.Refusal.the-variants.{Text, SheetRange, HourRange, UnitUnknown, BookRange, HourSettled, NoAmount, OverOffer, HeldLess, SameUnit, Minutes, Readings, Proportions, HourStands, HourOpen, NoPlaces}
-use Rattle.book.specs.declared.Verdict.{Verdict}
-use Rattle.book.specs.declared.Verdict.the-variants.{Accepted, Refused}
-use Rattle.book.specs.declared.Asked.{Asked}
+use Rattle.ledger.specs.declared.Refusal.{Refusal}
+use Rattle.ledger.specs.declared.Refusal.the-variants.{Text, SheetRange, HourRange, UnitUnknown, BookRange, HourSettled, NoAmount, OverOffer, HeldLess, SameUnit, Minutes, Readings, Proportions, HourStands, HourOpen, NoPlaces}
+use Rattle.ledger.specs.declared.Verdict.{Verdict}
+use Rattle.ledger.specs.declared.Verdict.the-variants.{Accepted, Refused}
+use Rattle.ledger.specs.declared.Asked.{Asked}
 use Rattle.book.specs.declared.Shift.{Shift}
-use Rattle.book.specs.declared.Request.{Request}
-use Rattle.book.specs.declared.Decision.{Decision}
-use Rattle.book.specs.declared.Answer.{Answer}
-use Rattle.book.specs.declared.Answer.the-variants.{Accepted as Done, Refused as Not}
-use Rattle.book.specs.Numbers.{refusalNumber, refusalLine, numberOf, lineOf, postedOf}
-use Rattle.book.specs.Calls.{Row, verdict, takeTests, releaseTests, moveTests, byVerdict, changedTo, refusedWith, bookFits, requestDecided, decided, plainRequest, requestOf}
-use Rattle.book.specs.Requests.{callFor}
+use Rattle.ledger.specs.declared.Request.{Request}
+use Rattle.ledger.specs.declared.Decision.{Decision}
+use Rattle.ledger.specs.declared.Answer.{Answer}
+use Rattle.ledger.specs.declared.Answer.the-variants.{Accepted as Done, Refused as Not}
+use Rattle.ledger.specs.Numbers.{refusalNumber, refusalLine, numberOf, lineOf, postedOf}
+use Rattle.ledger.specs.Calls.{Row, verdict, takeTests, releaseTests, moveTests, byVerdict, changedTo, refusedWith, bookFits, requestDecided, decided, plainRequest, requestOf}
+use Rattle.ledger.specs.Requests.{callFor}
 use Rattle.book.specs.Commitments.{hourPlace, entryPlace, targetOf, commitVerdict, committedBook, shiftBy, shiftOf, shiftIn, bookWith, commitmentDecided}
 use Rattle.book.proofs.Ladders.{decided-9, decided-on}
 use Rattle.book.proofs.Committed.{commitment-is}

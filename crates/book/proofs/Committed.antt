@@ -19,18 +19,18 @@ use Rattle.state.specs.declared.Book.{Book}
 use Rattle.state.specs.Book.{noKwh, settledMark, withCommitment}
 use Rattle.state.specs.Sizes.{entryOf}
 use Rattle.state.specs.Ranges.{limitAt}
-use Rattle.book.specs.declared.Refusal.{Refusal}
-use Rattle.book.specs.declared.Verdict.{Verdict}
-use Rattle.book.specs.declared.Verdict.the-variants.{Accepted, Refused}
-use Rattle.book.specs.declared.Asked.{Asked}
+use Rattle.ledger.specs.declared.Refusal.{Refusal}
+use Rattle.ledger.specs.declared.Verdict.{Verdict}
+use Rattle.ledger.specs.declared.Verdict.the-variants.{Accepted, Refused}
+use Rattle.ledger.specs.declared.Asked.{Asked}
 use Rattle.book.specs.declared.Shift.{Shift}
-use Rattle.book.specs.declared.Request.{Request}
-use Rattle.book.specs.declared.Decision.{Decision}
-use Rattle.book.specs.Calls.{Row, row, verdict, badHour, isSettled, heldKwh, lastKwh, withHeld, takeTests, releaseTests, moveTests, byVerdict, changedTo, refusedWith, requestRows, acceptedIn, requestDecided}
-use Rattle.book.specs.Numbers.{refusalNumber}
+use Rattle.ledger.specs.declared.Request.{Request}
+use Rattle.ledger.specs.declared.Decision.{Decision}
+use Rattle.ledger.specs.Calls.{Row, row, verdict, badHour, isSettled, heldKwh, lastKwh, withHeld, takeTests, releaseTests, moveTests, byVerdict, changedTo, refusedWith, requestRows, acceptedIn, requestDecided}
+use Rattle.ledger.specs.Numbers.{refusalNumber}
 use Rattle.book.specs.Commitments.{hourPlace, entryPlace, targetOf, commitVerdict, leftWith, heldThen, shiftOf, commitmentDecided}
-use Rattle.book.proofs.Places.{passed}
-use Rattle.book.proofs.Room.{from-known, to-known}
+use Rattle.ledger.proofs.Places.{passed}
+use Rattle.ledger.proofs.Passed.{from-known, to-known}
 
 -- what follows two rows matters only where both pass
 gated : (a b : Bool) (r q : Refusal) (xs ys : List Row) (d e : Decision) (f : Refusal → Decision) → (a ≡ false → b ≡ false → xs ≡ ys) → (a ≡ false → b ≡ false → d ≡ e)

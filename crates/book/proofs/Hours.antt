@@ -22,14 +22,14 @@ use Rattle.settlement.proofs.Taken.{hour-by, proportions-by}
 use Rattle.state.specs.declared.Book.{Book}
 use Rattle.state.specs.declared.HourEntry.{HourEntry}
 use Rattle.state.specs.Book.{hourEntry, hourCommitments, hourAmounts, noResult, openMark, settledMark}
-use Rattle.book.specs.declared.Refusal.{Refusal}
-use Rattle.book.specs.declared.Refusal.the-variants.{Text, SheetRange, HourStands, HourOpen}
-use Rattle.book.specs.declared.Verdict.{Verdict}
-use Rattle.book.specs.declared.Verdict.the-variants.{Accepted as passes, Refused as fails}
-use Rattle.book.specs.declared.Request.{Request}
-use Rattle.book.specs.declared.Decision.{Decision}
+use Rattle.ledger.specs.declared.Refusal.{Refusal}
+use Rattle.ledger.specs.declared.Refusal.the-variants.{Text, SheetRange, HourStands, HourOpen}
+use Rattle.ledger.specs.declared.Verdict.{Verdict}
+use Rattle.ledger.specs.declared.Verdict.the-variants.{Accepted as passes, Refused as fails}
+use Rattle.ledger.specs.declared.Request.{Request}
+use Rattle.ledger.specs.declared.Decision.{Decision}
 use Rattle.book.specs.declared.HourDecision.{HourDecision}
-use Rattle.book.specs.Calls.{Row, row, verdict, badHour, isSettled, textRows, recordTests, voidTests, recordRows, voidRows, requestRows, placeAfter, byVerdict, refusedWith, postedWith, recordedAt, voidedAt, acceptedIn, requestDecided, decided}
+use Rattle.ledger.specs.Calls.{Row, row, verdict, badHour, isSettled, textRows, recordTests, voidTests, recordRows, voidRows, requestRows, placeAfter, byVerdict, refusedWith, postedWith, recordedAt, voidedAt, acceptedIn, requestDecided, decided}
 use Rattle.book.specs.Commitments.{hourPlace}
 use Rattle.book.specs.Hours.{hourRefused, hourPosted, hourVerdict, entrySettled, voidPosted, recordPosted, testsIn, textIn, voidIn, settleIn, restateIn, hourOf, postingPlace, hourIn, knownIn, appliedTo}
 use Rattle.book.specs.Sound.{WellRead, Known}

@@ -17,10 +17,10 @@ use Rattle.settlement.specs.Refusals.{readingsHold}
 use Rattle.settlement.specs.Ranges.{proportionsBy}
 use Rattle.state.specs.declared.Book.{Book}
 use Rattle.state.specs.declared.HourEntry.{HourEntry}
-use Rattle.book.specs.declared.Refusal.{Refusal}
-use Rattle.book.specs.declared.Refusal.the-variants.{Text, SheetRange, HourRange, BookRange, Minutes, Readings, Proportions, HourStands, HourOpen, NoPlaces}
-use Rattle.book.specs.declared.Request.{Request}
-use Rattle.book.specs.Calls.{verdict, badHour, shortOf, refusedWith, requestDecided, bookFits, decided}
+use Rattle.ledger.specs.declared.Refusal.{Refusal}
+use Rattle.ledger.specs.declared.Refusal.the-variants.{Text, SheetRange, HourRange, BookRange, Minutes, Readings, Proportions, HourStands, HourOpen, NoPlaces}
+use Rattle.ledger.specs.declared.Request.{Request}
+use Rattle.ledger.specs.Calls.{verdict, badHour, shortOf, refusedWith, requestDecided, bookFits, decided}
 use Rattle.book.specs.Hours.{entrySettled, hourRefused, voidPosted, recordPosted, voidIn, recordIn, settleIn, restateIn, hourIn}
 
 -- the kinds that are no take, release or move

@@ -6,10 +6,10 @@ use mathlib.Core.List.{List}
 use Prim.Native.Nat.{ℕ}
 use lib.Dec.{leb, eqb}
 use Rattle.sheet.specs.declared.Sheet.{Sheet}
-use Rattle.book.specs.Calls.{plainRequest, recordRequest, requestOf}
-use Rattle.book.specs.declared.Asked.{Asked}
-use Rattle.book.specs.declared.Request.{Request}
-use Rattle.book.specs.Requests.{partOf, callFor, askedAt, callAt, requestAt}
+use Rattle.ledger.specs.Calls.{plainRequest, recordRequest, requestOf}
+use Rattle.ledger.specs.declared.Asked.{Asked}
+use Rattle.ledger.specs.declared.Request.{Request}
+use Rattle.ledger.specs.Requests.{partOf, callFor, askedAt, callAt, requestAt}
 use Rattle.book.proofs.Ladders.{kind-other}
 
 module _ (s : Sheet) (text : List ℕ) (a : Asked) where

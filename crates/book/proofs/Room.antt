@@ -1,15 +1,12 @@
--- What the passed tests say: the hour is one of 24 and the unit one of 8; by 9 and 12, a commitment is within the last offer quantity, and
--- the amounts that stand and those of a record that was read can be posted. So it is by what the sheet and the book have of an hour.
+-- What 9 and 12 say by what the sheet and the book have of an hour: the commitments are in their range, and the amounts that stand and those of a record
+-- that was read can be posted.
 -- Assumes nothing.
-use mathlib.Core.Path.{_≡_, refl, sym, ap, ap₂, _∙_, subst}
-use mathlib.Core.Bool.{Bool, true, false, not, _||_}
+use mathlib.Core.Path.{_≡_, sym, ap, ap₂, _∙_, subst}
+use mathlib.Core.Bool.{Bool, true}
 use Prim.Native.Nat.{ℕ, suc, _-_, _≤_, _<_}
 use native.Mathlib.Omega.{arith}
-use borrow.Author.Tests.{ltb-false, not-false}
-use lib.Dec.{ltb}
 use Rattle.finite.proofs.Tests.{and-left, and-right}
-use Rattle.units.specs.Units.{isMember}
-use Rattle.units.proofs.Laws.{member, place-lt}
+use Rattle.units.proofs.Laws.{place-lt}
 use Rattle.sheet.specs.declared.Sheet.{Sheet}
 use Rattle.sheet.specs.Ranges.{sheetHolds}
 use Rattle.sheet.proofs.InRange.{in-range}
@@ -31,51 +28,11 @@ use Rattle.state.proofs.Writing.{hour-commitment}
 use Rattle.state.proofs.Kept.{hour-within}
 use Rattle.postings.specs.Journal.{countHolds}
 use Rattle.postings.proofs.Counted.{count-most}
-use Rattle.book.specs.declared.Request.{Request}
+use Rattle.ledger.specs.declared.Request.{Request}
 use Rattle.book.specs.Sound.{PostReady, RecordDue, HourSound, WellRead, Known}
-use Rattle.book.specs.Calls.{badHour, unknownUnits, heldKwh, lastKwh, bookFits}
+use Rattle.ledger.specs.Calls.{bookFits}
 use Rattle.book.specs.Hours.{hourOf, postingPlace}
 use Rattle.book.proofs.Hours.{posting-lt, posting-at}
-
-or-left : (a b : Bool) → (a || b) ≡ false → a ≡ false
-or-left true b e = e
-or-left false b e = refl
-
-or-right : (a b : Bool) → (a || b) ≡ false → b ≡ false
-or-right true b e = absurd (let z : _≡_ {A = ℕ} 0 1 = cc in omega arith)
-or-right false b e = e
-
-pub hour-in : (hour : ℕ) → badHour hour ≡ false → (1 ≤ hour) × (hour ≤ 24)
-hour-in hour e = (ltb-false hour 1 (or-left (ltb hour 1) _ e), ltb-false 24 hour (or-right (ltb hour 1) _ e))
-
-pub unit-in : (unit : ℕ) → (ltb unit 1 || ltb 8 unit) ≡ false → (1 ≤ unit) × (unit ≤ 8)
-unit-in unit e = (ltb-false unit 1 (or-left (ltb unit 1) _ e), ltb-false 8 unit (or-right (ltb unit 1) _ e))
-
-pub hour-unit : (hour units unit : ℕ) → badHour hour ≡ false → isMember units unit ≡ true → (1 ≤ hour) × (hour ≤ 24) × (1 ≤ unit) × (unit ≤ 8)
-hour-unit hour units unit e m = let h = hour-in hour e in let u = member units unit m in (h .0, h .1, u .least, u .most)
-
-pub from-known : (units from to : ℕ) → unknownUnits units from to ≡ false → isMember units from ≡ true
-from-known units from to e = not-false _ (or-left (not (isMember units from)) _ e)
-
-pub to-known : (units from to : ℕ) → unknownUnits units from to ≡ false → isMember units to ≡ true
-to-known units from to e = not-false _ (or-right (not (isMember units from)) _ e)
-
-module _ (s : Sheet) (b : Book) (sheet-holds : sheetHolds s ≡ true) (book-holds : bookHolds s b ≡ true) (hour unit : ℕ) (e : badHour hour ≡ false) (m : isMember (s .units) unit ≡ true) where
-  pub held-le-last : heldKwh b hour unit ≤ lastKwh s hour unit
-  held-le-last =
-      let h = hour-in hour e in
-      let u = member (s .units) unit m in
-      let low = u .least in
-      let high = u .most in
-      book-in-range s b book-holds .commitment (hour - 1) (unit - 1) (omega (arith, h .0, h .1)) (omega arith)
-
-  pub last-million : lastKwh s hour unit ≤ 1000000
-  last-million =
-      let h = hour-in hour e in
-      let u = member (s .units) unit m in
-      let low = u .least in
-      let high = u .most in
-      limit-most s (hour - 1) (unit - 1) (in-range s sheet-holds) (omega (arith, h .0, h .1)) (omega arith)
 
 -- the commitments of a record's hour are in their range
 hour-ready : (s : Sheet) (b : Book) → bookHolds s b ≡ true → (r : Record) → HourRead s r → HourReady s r (hourCommitments b (r .hour - 1))

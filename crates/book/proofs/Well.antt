@@ -6,11 +6,11 @@ use mathlib.Core.List.{List}
 use Prim.Native.Nat.{ℕ}
 use native.Mathlib.Omega.{arith}
 use Rattle.sheet.specs.declared.Sheet.{Sheet}
-use Rattle.book.specs.Ledger.{Call, take, release, move, settle, restate, void}
-use Rattle.book.specs.Calls.{plainRequest, recordRequest, requestOf}
+use Rattle.ledger.specs.Ledger.{Call, take, release, move, settle, restate, void}
+use Rattle.ledger.specs.Calls.{plainRequest, recordRequest, requestOf}
 use Rattle.book.specs.Sound.{WellRead}
-use Rattle.book.specs.Requests.{takeRequest, releaseRequest, moveRequest, voidRequest, settleRequest, restateRequest, callAt, requestAt}
-use Rattle.book.proofs.Accepted.{given-range}
+use Rattle.ledger.specs.Requests.{takeRequest, releaseRequest, moveRequest, voidRequest, settleRequest, restateRequest, callAt, requestAt}
+use Rattle.ledger.proofs.Accepted.{given-range}
 
 plain-well : (s : Sheet) (kind hour unit to kwh : ℕ) → WellRead s (plainRequest kind hour unit to kwh)
 plain-well s kind hour unit to kwh = record { range = λ place e t. absurd (let z : _≡_ {A = ℕ} 0 1 = cc in omega arith) }

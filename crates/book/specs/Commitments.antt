@@ -12,14 +12,14 @@ use Rattle.sheet.specs.declared.Sheet.{Sheet}
 use Rattle.state.specs.Book.{noKwh, settledMark}
 use Rattle.state.specs.Ranges.{limitAt}
 use Rattle.state.specs.Sizes.{entryOf}
-use Rattle.book.specs.declared.Verdict.{Verdict}
-use Rattle.book.specs.declared.Verdict.the-variants.{Accepted, Refused}
-use Rattle.book.specs.declared.Refusal.the-variants.{SheetRange}
-use Rattle.book.specs.declared.Asked.{Asked}
+use Rattle.ledger.specs.declared.Verdict.{Verdict}
+use Rattle.ledger.specs.declared.Verdict.the-variants.{Accepted, Refused}
+use Rattle.ledger.specs.declared.Refusal.the-variants.{SheetRange}
+use Rattle.ledger.specs.declared.Asked.{Asked}
 use Rattle.book.specs.declared.Shift.{Shift}
-use Rattle.book.specs.declared.Decision.{Decision}
-use Rattle.book.specs.Numbers.{refusalNumber}
-use Rattle.book.specs.Calls.{verdict, badHour, takeTests, releaseTests, moveTests, byVerdict, changedTo, refusedWith}
+use Rattle.ledger.specs.declared.Decision.{Decision}
+use Rattle.ledger.specs.Numbers.{refusalNumber}
+use Rattle.ledger.specs.Calls.{verdict, badHour, takeTests, releaseTests, moveTests, byVerdict, changedTo, refusedWith}
 
 -- where an hour, and an hour's unit, stand in the book; 0 for one that is none
 unfoldable pub hourPlace : ℕ → ℕ

@@ -15,15 +15,15 @@ use Rattle.state.specs.declared.Book.{Book}
 use Rattle.state.specs.declared.HourEntry.{HourEntry}
 use Rattle.state.specs.Book.{withHour, noResult, openMark, settledMark}
 use Rattle.postings.specs.Plan.{planOf}
-use Rattle.book.specs.declared.Refusal.{Refusal}
-use Rattle.book.specs.declared.Refusal.the-variants.{SheetRange, HourStands, HourOpen}
-use Rattle.book.specs.declared.Verdict.{Verdict}
-use Rattle.book.specs.declared.Verdict.the-variants.{Accepted as passes, Refused as fails}
-use Rattle.book.specs.declared.Answer.the-variants.{Posted, Refused}
-use Rattle.book.specs.declared.Request.{Request}
-use Rattle.book.specs.declared.Decision.{Decision}
+use Rattle.ledger.specs.declared.Refusal.{Refusal}
+use Rattle.ledger.specs.declared.Refusal.the-variants.{SheetRange, HourStands, HourOpen}
+use Rattle.ledger.specs.declared.Verdict.{Verdict}
+use Rattle.ledger.specs.declared.Verdict.the-variants.{Accepted as passes, Refused as fails}
+use Rattle.ledger.specs.declared.Answer.the-variants.{Posted, Refused}
+use Rattle.ledger.specs.declared.Request.{Request}
+use Rattle.ledger.specs.declared.Decision.{Decision}
 use Rattle.book.specs.declared.HourDecision.{HourDecision}
-use Rattle.book.specs.Calls.{Row, row, verdict, textRows, recordTests, voidTests, noPlan, placeAfter}
+use Rattle.ledger.specs.Calls.{Row, row, verdict, textRows, recordTests, voidTests, noPlan, placeAfter}
 use Rattle.book.specs.Commitments.{hourPlace}
 
 -- a refusal, and an hour whose amounts become those of `result`: "each amount's new value less its old one"

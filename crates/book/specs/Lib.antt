@@ -1,11 +1,3 @@
-pub mod Ledger
-pub mod Reckoned
-pub mod Numbers
-pub mod Calls
 pub mod Commitments
 pub mod Hours
 pub mod Sound
-pub mod Agrees
-pub mod Demand
-pub mod Requests
-pub mod Total

@@ -16,9 +16,9 @@ use Rattle.state.specs.declared.Book.{Book}
 use Rattle.state.specs.declared.HourEntry.{HourEntry}
 use Rattle.state.specs.Book.{hourEntry}
 use Rattle.state.specs.Ranges.{bookHolds, AmountsWithin}
-use Rattle.book.specs.declared.Request.{Request}
+use Rattle.ledger.specs.declared.Request.{Request}
 use Rattle.record.specs.declared.Record.{Record}
-use Rattle.book.specs.Calls.{bookFits}
+use Rattle.ledger.specs.Calls.{bookFits}
 use Rattle.book.specs.Hours.{postingPlace}
 
 -- a request whose record, where there is one, was read under the sheet

@@ -6,9 +6,9 @@ use Prim.Native.Nat.{ℕ, zero, suc}
 use lib.ListN.{length}
 use Rattle.sheet.specs.declared.Sheet.{Sheet}
 use Rattle.postings.specs.declared.Posting.{Posting}
-use Rattle.book.specs.declared.Outcome.{Outcome}
-use Rattle.book.specs.declared.TotalAnswer.{TotalAnswer}
-use Rattle.book.specs.Total.{totalOn}
+use Rattle.ledger.specs.declared.Outcome.{Outcome}
+use Rattle.ledger.specs.declared.TotalAnswer.{TotalAnswer}
+use Rattle.ledger.specs.Total.{totalOn}
 use Rattle.journal.specs.Journal.{Performed}
 use Rattle.journal.proofs.Posted.{length-performed}
 use Rattle.decimal.proofs.Laws.{length-written}

@@ -12,9 +12,9 @@ use Rattle.sheet.specs.Day.{readSheet}
 use Rattle.state.specs.declared.Book.{Book}
 use Rattle.state.specs.Book.{emptyBook}
 use Rattle.postings.specs.declared.Posting.{Posting}
-use Rattle.book.specs.declared.TotalAnswer.{TotalAnswer}
-use Rattle.book.specs.Calls.{requestOf}
-use Rattle.book.specs.Requests.{callFor}
+use Rattle.ledger.specs.declared.TotalAnswer.{TotalAnswer}
+use Rattle.ledger.specs.Calls.{requestOf}
+use Rattle.ledger.specs.Requests.{callFor}
 use Rattle.journal.specs.Journal.{Performed, performed}
 use Rattle.asks.specs.declared.Asking.{Asking}
 use Rattle.asks.specs.declared.Extent.{Extent}

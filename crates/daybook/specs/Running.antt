@@ -5,10 +5,10 @@ use lib.ListN.{length}
 use Rattle.sheet.specs.declared.Sheet.{Sheet}
 use Rattle.state.specs.Book.{emptyBook}
 use Rattle.postings.specs.declared.Posting.{Posting}
-use Rattle.book.specs.declared.Outcome.{Outcome}
-use Rattle.book.specs.declared.TotalAnswer.{TotalAnswer}
-use Rattle.book.specs.Calls.{requestOf}
-use Rattle.book.specs.Requests.{callFor}
+use Rattle.ledger.specs.declared.Outcome.{Outcome}
+use Rattle.ledger.specs.declared.TotalAnswer.{TotalAnswer}
+use Rattle.ledger.specs.Calls.{requestOf}
+use Rattle.ledger.specs.Requests.{callFor}
 use Rattle.journal.specs.Journal.{Performed, performed}
 use Rattle.decimal.specs.Output.{Output, output, written}
 use Rattle.asks.specs.declared.Asking.{Asking}

@@ -9,9 +9,9 @@ use Rattle.sheet.specs.declared.Sheet.{Sheet}
 use Rattle.state.specs.declared.Book.{Book}
 use Rattle.postings.specs.declared.Posting.{Posting}
 use Rattle.postings.specs.Journal.{noPosting}
-use Rattle.book.specs.declared.Outcome.{Outcome}
-use Rattle.book.specs.declared.TotalAnswer.{TotalAnswer}
-use Rattle.book.specs.Total.{totalOn}
+use Rattle.ledger.specs.declared.Outcome.{Outcome}
+use Rattle.ledger.specs.declared.TotalAnswer.{TotalAnswer}
+use Rattle.ledger.specs.Total.{totalOn}
 use Rattle.journal.specs.Journal.{Performed}
 use Rattle.asks.specs.declared.Asking.{Asking}
 use Rattle.asks.specs.Asks.{noAsked, askingAt}

@@ -9,8 +9,8 @@ ghost use Rattle.daybook.specs.Running.{toldTo, Running, turned, ranAll,
 ghost use Rattle.daybook.specs.Replay.{turnsOf, callLines, replayed};
 use asks::Asking;
 use asks::Extent;
-use book::Outcome;
-use book::TotalAnswer;
+use ledger::Outcome;
+use ledger::TotalAnswer;
 use lines::ReadAnswer;
 use postings::Posting;
 use sheet::Sheet;

@@ -9,14 +9,14 @@ use Rattle.decimal.specs.Decimal.{digits, signed}
 use Rattle.text.specs.Text.{before}
 use Rattle.text.specs.Bytes.{bytes}
 use Rattle.lines.specs.declared.TextRefusal.{TextRefusal}
-use Rattle.book.specs.declared.Refusal.{Refusal}
-use Rattle.book.specs.declared.Refusal.the-variants.{Text}
-use Rattle.book.specs.declared.Answer.{Answer}
-use Rattle.book.specs.declared.Answer.the-variants.{Accepted, Posted, Refused}
-use Rattle.book.specs.declared.Verdict.{Verdict}
-use Rattle.book.specs.declared.Verdict.the-variants.{Accepted as passes, Refused as fails}
-use Rattle.book.specs.declared.TotalAnswer.{TotalAnswer}
-use Rattle.book.specs.Numbers.{refusalNumber, refusalLine}
+use Rattle.ledger.specs.declared.Refusal.{Refusal}
+use Rattle.ledger.specs.declared.Refusal.the-variants.{Text}
+use Rattle.ledger.specs.declared.Answer.{Answer}
+use Rattle.ledger.specs.declared.Answer.the-variants.{Accepted, Posted, Refused}
+use Rattle.ledger.specs.declared.Verdict.{Verdict}
+use Rattle.ledger.specs.declared.Verdict.the-variants.{Accepted as passes, Refused as fails}
+use Rattle.ledger.specs.declared.TotalAnswer.{TotalAnswer}
+use Rattle.ledger.specs.Numbers.{refusalNumber, refusalLine}
 
 -- a number, or an amount in Rial, behind a space
 unfoldable pub field : ℕ → List ℕ

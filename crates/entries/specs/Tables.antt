@@ -10,8 +10,8 @@ use Rattle.state.specs.declared.Book.{Book}
 use Rattle.state.specs.Sizes.{hours, places}
 use Rattle.state.specs.Book.{commitmentAt, markAt, energyAt, amountsAt, settledMark}
 use Rattle.listing.specs.Listing.{joined, unitLine}
-use Rattle.book.specs.declared.Verdict.{Verdict}
-use Rattle.book.specs.declared.Verdict.the-variants.{Accepted as passes, Refused as fails}
+use Rattle.ledger.specs.declared.Verdict.{Verdict}
+use Rattle.ledger.specs.declared.Verdict.the-variants.{Accepted as passes, Refused as fails}
 use Rattle.entries.specs.Entries.{field, amountField}
 
 -- "`commitment HOUR UNIT KWH` for each that is over 0, hour then unit ascending"

@@ -5,10 +5,10 @@ ghost use Rattle.state.specs.Sizes.{hours, places};
 ghost use Rattle.decimal.specs.Output.{output, written};
 ghost use Rattle.entries.specs.Entries.{field, amountField, refusalText, sheetRefused, answerText, totalText, resultText, lineText, entryLine, stopLine};
 ghost use Rattle.entries.specs.Tables.{commitmentLine, hourCommitments, commitmentLines, settledLine, settledUnits, settledHour, settledHours, tables, totalLine};
-use book::Answer;
-use book::Refusal;
-use book::TotalAnswer;
-use book::Verdict;
+use ledger::Answer;
+use ledger::Refusal;
+use ledger::TotalAnswer;
+use ledger::Verdict;
 use lines::TextRefusal;
 use state::Book;
 

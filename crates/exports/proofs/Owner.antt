@@ -51,8 +51,8 @@ use Rattle.postings.specs.declared.Posting.{Posting}
 use Rattle.sheet.specs.declared.Sheet.{Sheet}
 use Rattle.journal.specs.declared.Ran.{Ran}
 use Rattle.postings.specs.Journal.{noPosting as past}
-use Rattle.book.specs.Requests.{callsIn}
-use Rattle.book.specs.Demand.{Demand}
+use Rattle.ledger.specs.Requests.{callsIn}
+use Rattle.ledger.specs.Demand.{Demand}
 use Rattle.journal.specs.Run.{Running, startRan, turnsOf, repliesIn, ranAll}
 use Rattle.exports.specs.Exports.{listedTo, mostPlaces, Owned, ownedOf}
 use Rattle.journal.proofs.OwnList.{past-is, array-is, into-cells, out-of-cells}

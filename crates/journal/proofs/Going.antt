@@ -20,16 +20,16 @@ use Rattle.state.specs.Book.{noKwh, settledMark}
 use Rattle.state.specs.Ranges.{limitAt, bookHolds}
 use Rattle.postings.specs.declared.Posting.{Posting}
 use Rattle.postings.specs.Journal.{countHolds, postedHold}
-use Rattle.book.specs.declared.Asked.{Asked}
+use Rattle.ledger.specs.declared.Asked.{Asked}
 use Rattle.book.specs.declared.Shift.{Shift}
-use Rattle.book.specs.declared.Decision.{Decision}
-use Rattle.book.specs.Numbers.{numberOf, lineOf, postedOf}
+use Rattle.ledger.specs.declared.Decision.{Decision}
+use Rattle.ledger.specs.Numbers.{numberOf, lineOf, postedOf}
 use Rattle.book.specs.Sound.{Known}
-use Rattle.book.specs.Calls.{State, bookFits, decided, decidedOn, requestOf, outcomeOf, journalAfter}
-use Rattle.book.specs.Requests.{askedAt, callFor, callAt, requestAt, callsIn}
+use Rattle.ledger.specs.Calls.{State, bookFits, decided, decidedOn, requestOf, outcomeOf, journalAfter}
+use Rattle.ledger.specs.Requests.{askedAt, callFor, callAt, requestAt, callsIn}
 use Rattle.book.specs.Commitments.{hourPlace, entryPlace, targetOf, shiftOf, shiftIn, bookWith}
-use Rattle.book.proofs.Promise.{promise}
-use Rattle.book.proofs.Places.{decided-fits, decided-rows}
+use Rattle.ledger.proofs.Promise.{promise}
+use Rattle.ledger.proofs.Places.{decided-fits, decided-rows}
 use Rattle.book.proofs.Carried.{Carried, carried, shift-here, book-here}
 use Rattle.journal.specs.declared.Ran.{Ran}
 use Rattle.journal.specs.declared.Stand.{Stand}

@@ -12,16 +12,16 @@ use Rattle.finite.specs.Finite.{tabulate}
 use Rattle.finite.proofs.Tables.{tabulate-same}
 use Rattle.sheet.specs.declared.Sheet.{Sheet}
 use Rattle.postings.specs.declared.Posting.{Posting}
-use Rattle.book.specs.declared.Answer.{Answer}
-use Rattle.book.specs.declared.Answer.the-variants.{Accepted, Posted, Refused}
-use Rattle.book.specs.declared.Outcome.{Outcome}
-use Rattle.book.specs.Ledger.{Reply}
-use Rattle.book.specs.Numbers.{replyOf, numberOf, lineOf, postedOf}
-use Rattle.book.specs.Requests.{callAt, requestAt, callsIn}
-use Rattle.book.specs.Calls.{State, Ran, carriedOut, requestOf, ranFrom, begun}
-use Rattle.book.specs.Demand.{Demand}
-use Rattle.book.proofs.Onward.{further, ran-further}
-use Rattle.book.proofs.Promise.{promise}
+use Rattle.ledger.specs.declared.Answer.{Answer}
+use Rattle.ledger.specs.declared.Answer.the-variants.{Accepted, Posted, Refused}
+use Rattle.ledger.specs.declared.Outcome.{Outcome}
+use Rattle.ledger.specs.Ledger.{Reply}
+use Rattle.ledger.specs.Numbers.{replyOf, numberOf, lineOf, postedOf}
+use Rattle.ledger.specs.Requests.{callAt, requestAt, callsIn}
+use Rattle.ledger.specs.Calls.{State, Ran, carriedOut, requestOf, ranFrom, begun}
+use Rattle.ledger.specs.Demand.{Demand}
+use Rattle.ledger.proofs.Onward.{further, ran-further}
+use Rattle.ledger.proofs.Promise.{promise}
 use Rattle.journal.specs.Journal.{performed}
 use Rattle.journal.specs.Run.{Running, startRan, answered, replyIn, repliesIn, turnsOf, stateOf, performedAt, turned, ranAll}
 use Rattle.journal.proofs.Turned.{length-answers}

@@ -29,8 +29,8 @@ use denote.Steps.{nothing}
 use denote.Triple.End.{Fins, all}
 use denote.Triple.Walked.{Stays, stay-dropped, fitsOf, hasOf, AllGo, goes-dropped}
 use Rattle.journal.proofs.Typed.{typed-asked}
-use Rattle.book.proofs.Asked as D
-use Rattle.book.proofs.Asked.Laws as D′
+use Rattle.ledger.proofs.Asked as D
+use Rattle.ledger.proofs.Asked.Laws as D′
 
 -- A parameter of one machine value, in the call's own signature, which has one lifetime more for the list, and in that of the function that it is
 -- handed on to. Nothing is said of it at exit.

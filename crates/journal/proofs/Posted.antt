@@ -20,12 +20,12 @@ use Rattle.postings.specs.Journal.{noPosting, coveredBy, countHolds, postedHold
 use Rattle.postings.specs.Plan.{rowOf}
 use Rattle.postings.proofs.Counted.{count-list, count-most, covered-all}
 use Rattle.postings.proofs.Scan.{scan-good, scan-sum}
-use Rattle.book.specs.declared.Request.{Request}
-use Rattle.book.specs.declared.Decision.{Decision}
-use Rattle.book.specs.declared.Verdict.the-variants.{Accepted}
-use Rattle.book.specs.Calls.{bookFits, decided, journalAfter, outcomeOf}
-use Rattle.book.specs.Total.{totalBy, itemOf, totalDecided, totalOn}
-use Rattle.book.proofs.Places.{decided-fits, decided-rows, fits-by, decided-same}
+use Rattle.ledger.specs.declared.Request.{Request}
+use Rattle.ledger.specs.declared.Decision.{Decision}
+use Rattle.ledger.specs.declared.Verdict.the-variants.{Accepted}
+use Rattle.ledger.specs.Calls.{bookFits, decided, journalAfter, outcomeOf}
+use Rattle.ledger.specs.Total.{totalBy, itemOf, totalDecided, totalOn}
+use Rattle.ledger.proofs.Places.{decided-fits, decided-rows, fits-by, decided-same}
 use Rattle.journal.specs.Journal.{scannedIn, posted, Performed, performed}
 
 pub length-posted : (l : List Posting) (at : ℕ) (p : Plan) (k : ℕ) → length (posted l at p k) ≡ length l

@@ -7,8 +7,8 @@ use Prim.Native.Nat.{ℕ, _/_, _≤_, _<_}
 use lib.ListN.{length}
 use Rattle.sheet.specs.declared.Sheet.{Sheet}
 use Rattle.postings.specs.declared.Posting.{Posting}
-use Rattle.book.specs.Requests.{callsIn}
-use Rattle.book.specs.Demand.{Demand}
+use Rattle.ledger.specs.Requests.{callsIn}
+use Rattle.ledger.specs.Demand.{Demand}
 use Rattle.journal.specs.declared.Ran.{Ran}
 use Rattle.journal.specs.declared.Stand.{Stand}
 use Rattle.journal.specs.declared.Step.{Step}

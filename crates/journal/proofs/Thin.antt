@@ -46,8 +46,8 @@ use denote.Signature.{Slot, plain, typesAt}
 use Rattle.postings.specs.declared.Posting.{Posting}
 use Rattle.sheet.specs.declared.Sheet.{Sheet}
 use Rattle.state.specs.declared.Book.{Book}
-use Rattle.book.specs.declared.Request.{Request}
-use Rattle.book.specs.declared.Outcome.{Outcome}
+use Rattle.ledger.specs.declared.Request.{Request}
+use Rattle.ledger.specs.declared.Outcome.{Outcome}
 use Rattle.book.specs.Sound.{WellRead}
 use Rattle.journal.specs.Journal.{Performed, performed}
 use Rattle.journal.proofs.Typed.{typed-sheet, typed-book, typed-request, typed-outcome}
@@ -58,10 +58,10 @@ use Rattle.sheet.proofs.Sheet as Z
 use Rattle.sheet.proofs.Sheet.Laws as Z′
 use Rattle.state.proofs.Book as B
 use Rattle.state.proofs.Book.Laws as B′
-use Rattle.book.proofs.Request as K
-use Rattle.book.proofs.Request.Laws as K′
-use Rattle.book.proofs.Outcome as O
-use Rattle.book.proofs.Outcome.Laws as O′
+use Rattle.ledger.proofs.Request as K
+use Rattle.ledger.proofs.Request.Laws as K′
+use Rattle.ledger.proofs.Outcome as O
+use Rattle.ledger.proofs.Outcome.Laws as O′
 use Rattle.journal.proofs.perform as perform
 use Rattle.journal.proofs.perform.Symbol as perform-def
 use Rattle.journal.proofs.perform.Symbol.{name as #journal·perform}

@@ -8,8 +8,8 @@ use native.Mathlib.Omega.{arith}
 use lib.Dec.{ltb}
 use lib.ListN.{length, set, length-set}
 use Rattle.sheet.specs.declared.Sheet.{Sheet}
-use Rattle.book.specs.declared.Outcome.{Outcome}
-use Rattle.book.specs.Numbers.{numberOf, lineOf, postedOf}
+use Rattle.ledger.specs.declared.Outcome.{Outcome}
+use Rattle.ledger.specs.Numbers.{numberOf, lineOf, postedOf}
 use Rattle.journal.specs.Run.{Running, answered, turnsOf, performedAt, turned, ranAll}
 use Rattle.journal.proofs.Posted.{length-performed}
 

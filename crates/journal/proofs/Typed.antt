@@ -12,11 +12,11 @@ use Rattle.postings.specs.declared.Scanned.{Scanned}
 use Rattle.postings.specs.declared.Plan.{Plan}
 use Rattle.sheet.specs.declared.Sheet.{Sheet}
 use Rattle.state.specs.declared.Book.{Book}
-use Rattle.book.specs.declared.Asked.{Asked}
-use Rattle.book.specs.declared.Request.{Request}
-use Rattle.book.specs.declared.Decision.{Decision}
-use Rattle.book.specs.declared.Outcome.{Outcome}
-use Rattle.book.specs.declared.TotalAnswer.{TotalAnswer}
+use Rattle.ledger.specs.declared.Asked.{Asked}
+use Rattle.ledger.specs.declared.Request.{Request}
+use Rattle.ledger.specs.declared.Decision.{Decision}
+use Rattle.ledger.specs.declared.Outcome.{Outcome}
+use Rattle.ledger.specs.declared.TotalAnswer.{TotalAnswer}
 use Rattle.journal.specs.declared.Ran.{Ran}
 use Rattle.journal.specs.declared.Stand.{Stand}
 use Rattle.journal.specs.declared.Step.{Step}
@@ -28,16 +28,16 @@ use Rattle.sheet.proofs.Sheet as Z
 use Rattle.sheet.proofs.Sheet.Laws as Z′
 use Rattle.state.proofs.Book as B
 use Rattle.state.proofs.Book.Laws as B′
-use Rattle.book.proofs.Asked as D
-use Rattle.book.proofs.Asked.Laws as D′
-use Rattle.book.proofs.Request as K
-use Rattle.book.proofs.Request.Laws as K′
-use Rattle.book.proofs.Decision as S
-use Rattle.book.proofs.Decision.Laws as S′
-use Rattle.book.proofs.Outcome as O
-use Rattle.book.proofs.Outcome.Laws as O′
-use Rattle.book.proofs.TotalAnswer as U
-use Rattle.book.proofs.TotalAnswer.Laws as U′
+use Rattle.ledger.proofs.Asked as D
+use Rattle.ledger.proofs.Asked.Laws as D′
+use Rattle.ledger.proofs.Request as K
+use Rattle.ledger.proofs.Request.Laws as K′
+use Rattle.ledger.proofs.Decision as S
+use Rattle.ledger.proofs.Decision.Laws as S′
+use Rattle.ledger.proofs.Outcome as O
+use Rattle.ledger.proofs.Outcome.Laws as O′
+use Rattle.ledger.proofs.TotalAnswer as U
+use Rattle.ledger.proofs.TotalAnswer.Laws as U′
 use Rattle.journal.proofs.Ran as R
 use Rattle.journal.proofs.Ran.Laws as R′
 use Rattle.journal.proofs.Stand as N

@@ -9,10 +9,10 @@ use Rattle.postings.specs.declared.Plan.{Plan}
 use Rattle.postings.specs.declared.Scanned.{Scanned}
 use Rattle.postings.specs.Journal.{coveredBy, scannedTo}
 use Rattle.postings.specs.Plan.{rowOf}
-use Rattle.book.specs.declared.Request.{Request}
-use Rattle.book.specs.declared.Decision.{Decision}
-use Rattle.book.specs.declared.Outcome.{Outcome}
-use Rattle.book.specs.Calls.{decidedOn, journalAfter, outcomeOf}
+use Rattle.ledger.specs.declared.Request.{Request}
+use Rattle.ledger.specs.declared.Decision.{Decision}
+use Rattle.ledger.specs.declared.Outcome.{Outcome}
+use Rattle.ledger.specs.Calls.{decidedOn, journalAfter, outcomeOf}
 
 -- what a scan sees of the first postings, none past the count, the list or 100,000: each within its bound, and the total of a unit and an item
 abbrev pub scannedIn : List Posting → (count unit item : ℕ) → Scanned

@@ -9,11 +9,11 @@ use Rattle.finite.specs.Finite.{tabulate}
 use Rattle.sheet.specs.declared.Sheet.{Sheet}
 use Rattle.state.specs.Book.{emptyBook}
 use Rattle.postings.specs.declared.Posting.{Posting}
-use Rattle.book.specs.declared.Outcome.{Outcome}
-use Rattle.book.specs.Ledger.{Reply}
-use Rattle.book.specs.Numbers.{numberOf, lineOf, postedOf}
-use Rattle.book.specs.Calls.{State}
-use Rattle.book.specs.Requests.{callNumbers, requestAt}
+use Rattle.ledger.specs.declared.Outcome.{Outcome}
+use Rattle.ledger.specs.Ledger.{Reply}
+use Rattle.ledger.specs.Numbers.{numberOf, lineOf, postedOf}
+use Rattle.ledger.specs.Calls.{State}
+use Rattle.ledger.specs.Requests.{callNumbers, requestAt}
 use Rattle.journal.specs.declared.Ran.{Ran}
 use Rattle.journal.specs.Journal.{Performed, performed}
 

@@ -10,7 +10,7 @@ use Rattle.sheet.specs.declared.Sheet.{Sheet}
 use Rattle.sheet.specs.Ranges.{sheetHolds}
 use Rattle.state.specs.Book.{emptyBook}
 use Rattle.postings.specs.declared.Posting.{Posting}
-use Rattle.book.specs.Requests.{askedAt}
+use Rattle.ledger.specs.Requests.{askedAt}
 use Rattle.journal.specs.declared.Ran.{Ran}
 use Rattle.journal.specs.declared.Stand.{Stand}
 use Rattle.journal.specs.Run.{Running, startRan, ranAll}

@@ -13,10 +13,10 @@ use Rattle.settlement.specs.Hour.{hourSheet}
 use Rattle.state.specs.declared.Book.{Book}
 use Rattle.state.specs.Book.{emptyBook, hourEntry, withHour}
 use Rattle.postings.specs.Journal.{noPosting}
-use Rattle.book.specs.declared.Request.{Request}
+use Rattle.ledger.specs.declared.Request.{Request}
 use Rattle.book.specs.declared.HourDecision.{HourDecision}
-use Rattle.book.specs.Calls.{requestOf}
-use Rattle.book.specs.Requests.{callFor}
+use Rattle.ledger.specs.Calls.{requestOf}
+use Rattle.ledger.specs.Requests.{callFor}
 use Rattle.book.specs.Sound.{WellRead}
 use Rattle.book.specs.Hours.{postingPlace, knownIn}
 use Rattle.book.proofs.Carried.{shift-here, book-here}

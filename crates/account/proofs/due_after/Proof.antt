@@ -2,7 +2,7 @@
 -- Assumes nothing.
 use Prim.Native.Nat.{ℕ}
 use mathlib.Core.Path.{_≡_, ap, sym, _∙_}
-use Rattle.book.specs.declared.Answer.{Answer}
+use Rattle.ledger.specs.declared.Answer.{Answer}
 use Rattle.account.specs.Day.{answeredBy, noneDue}
 use borrow.Author.Needs.{needs}
 use Rattle.account.proofs.due_after.Statement.{statement}

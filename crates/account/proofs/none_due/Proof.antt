@@ -1,7 +1,7 @@
 -- No call is due.
 -- Assumes nothing.
 use mathlib.Core.Path.{ap}
-use Rattle.book.specs.declared.Asked.{Asked}
+use Rattle.ledger.specs.declared.Asked.{Asked}
 use Rattle.account.specs.declared.Due.{Due}
 use borrow.Author.Needs.{needs}
 use Rattle.account.proofs.none_due.Statement.{statement}

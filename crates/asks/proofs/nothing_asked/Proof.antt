@@ -1,6 +1,6 @@
 -- It is the definition, with the call that is always refused.
 -- Assumes nothing.
-use Rattle.book.specs.declared.Asked.{Asked}
+use Rattle.ledger.specs.declared.Asked.{Asked}
 use mathlib.Core.Path.{ap}
 use borrow.Author.Needs.{needs}
 use Rattle.asks.proofs.nothing_asked.Statement.{statement}

@@ -1,7 +1,7 @@
 -- The eight numbers are those of the definition.
 -- Assumes nothing.
 use borrow.Author.Tests.{lt-ltb, le-ltb}
-use Rattle.book.specs.Requests.{askedAt}
+use Rattle.ledger.specs.Requests.{askedAt}
 use borrow.Author.Needs.{needs}
 use Rattle.book.proofs.asked_at.Statement.{statement}
 use Rattle.book.proofs.asked_at.Tie as tie

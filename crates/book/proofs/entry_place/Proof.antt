@@ -3,7 +3,7 @@
 use mathlib.Core.Path.{sym, _∙_}
 use native.Mathlib.Omega.{arith}
 use Rattle.book.specs.Commitments.{entryPlace}
-use Rattle.book.proofs.Room.{hour-in, unit-in}
+use Rattle.ledger.proofs.Passed.{hour-in, unit-in}
 use borrow.Author.Needs.{needs}
 use Rattle.book.proofs.entry_place.Statement.{statement}
 use Rattle.book.proofs.entry_place.Tie as tie

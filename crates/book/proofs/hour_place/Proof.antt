@@ -3,7 +3,7 @@
 use mathlib.Core.Path.{sym, _∙_}
 use native.Mathlib.Omega.{arith}
 use Rattle.book.specs.Commitments.{hourPlace}
-use Rattle.book.proofs.Room.{hour-in}
+use Rattle.ledger.proofs.Passed.{hour-in}
 use borrow.Author.Needs.{needs}
 use Rattle.book.proofs.hour_place.Statement.{statement}
 use Rattle.book.proofs.hour_place.Tie as tie

@@ -1,6 +1,6 @@
 -- The request by its name.
 -- Assumes nothing.
-use Rattle.book.specs.Requests.{moveRequest}
+use Rattle.ledger.specs.Requests.{moveRequest}
 use borrow.Author.Needs.{needs}
 use Rattle.book.proofs.move_request.Statement.{statement}
 use Rattle.book.proofs.move_request.Tie as tie

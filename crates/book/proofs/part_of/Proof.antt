@@ -9,7 +9,7 @@ use borrow.Author.Tests.{leb-true, leb-false}
 use lib.Dec.{leb}
 use lib.ListN.{length, length-drop, take, drop, drop-of-length-le}
 use lib.Seq.{take-all, take-nil}
-use Rattle.book.specs.Requests.{partOf}
+use Rattle.ledger.specs.Requests.{partOf}
 use borrow.Author.Needs.{needs}
 use Rattle.book.proofs.part_of.Statement.{statement}
 use Rattle.book.proofs.part_of.Tie as tie

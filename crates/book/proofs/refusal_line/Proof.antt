@@ -1,7 +1,7 @@
 -- Only a refused text has a line, which is the reader's.
 -- Assumes nothing.
 use mathlib.Core.Path.{sym, _∙_, ap}
-use Rattle.book.specs.Numbers.{refusalLine}
+use Rattle.ledger.specs.Numbers.{refusalLine}
 use borrow.Author.Needs.{needs}
 use Rattle.book.proofs.refusal_line.Statement.{statement}
 use Rattle.book.proofs.refusal_line.Tie as tie

@@ -1,7 +1,7 @@
 -- Each case has its number in the definition; that of a text is the reader's.
 -- Assumes nothing.
 use mathlib.Core.Path.{sym, _∙_, ap}
-use Rattle.book.specs.Numbers.{refusalNumber}
+use Rattle.ledger.specs.Numbers.{refusalNumber}
 use borrow.Author.Needs.{needs}
 use Rattle.book.proofs.refusal_number.Statement.{statement}
 use Rattle.book.proofs.refusal_number.Tie as tie

@@ -1,6 +1,6 @@
 -- The request by its name.
 -- Assumes nothing.
-use Rattle.book.specs.Requests.{releaseRequest}
+use Rattle.ledger.specs.Requests.{releaseRequest}
 use borrow.Author.Needs.{needs}
 use Rattle.book.proofs.release_request.Statement.{statement}
 use Rattle.book.proofs.release_request.Tie as tie

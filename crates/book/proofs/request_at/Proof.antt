@@ -1,9 +1,9 @@
 -- The call is the one that its group of numbers asks for.
 -- Assumes nothing.
 use mathlib.Core.Path.{ap, _∙_}
-use Rattle.book.specs.declared.Asked.{Asked}
-use Rattle.book.specs.Calls.{requestOf}
-use Rattle.book.specs.Requests.{callFor, callAt, requestAt}
+use Rattle.ledger.specs.declared.Asked.{Asked}
+use Rattle.ledger.specs.Calls.{requestOf}
+use Rattle.ledger.specs.Requests.{callFor, callAt, requestAt}
 use borrow.Author.Needs.{needs}
 use Rattle.book.proofs.request_at.Statement.{statement}
 use Rattle.book.proofs.request_at.Tie as tie

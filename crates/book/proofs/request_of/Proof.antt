@@ -2,7 +2,7 @@
 -- Assumes nothing.
 use mathlib.Core.Path.{_∙_}
 use borrow.Author.Tests.{eq-eqb, ne-eqb}
-use Rattle.book.specs.Calls.{readRequest}
+use Rattle.ledger.specs.Calls.{readRequest}
 use Rattle.book.proofs.Numbered.{take-by, release-by, move-by, settle-by, restate-by, void-by}
 use borrow.Author.Needs.{needs}
 use Rattle.book.proofs.request_of.Statement.{statement}

@@ -1,6 +1,6 @@
 -- The request by its name.
 -- Assumes nothing.
-use Rattle.book.specs.Requests.{takeRequest}
+use Rattle.ledger.specs.Requests.{takeRequest}
 use borrow.Author.Needs.{needs}
 use Rattle.book.proofs.take_request.Statement.{statement}
 use Rattle.book.proofs.take_request.Tie as tie

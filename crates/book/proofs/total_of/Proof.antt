@@ -3,7 +3,7 @@
 use mathlib.Core.Path.{sym, _∙_}
 use borrow.Author.Tests.{not-true, not-false}
 use Rattle.formulas.proofs.Amounts.{back}
-use Rattle.book.specs.Total.{totalBy, totalDecided}
+use Rattle.ledger.specs.Total.{totalBy, totalDecided}
 use borrow.Author.Needs.{needs}
 use Rattle.book.proofs.total_of.Statement.{statement}
 use Rattle.book.proofs.total_of.Tie as tie

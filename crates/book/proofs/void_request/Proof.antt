@@ -1,6 +1,6 @@
 -- The request by its name.
 -- Assumes nothing.
-use Rattle.book.specs.Requests.{voidRequest}
+use Rattle.ledger.specs.Requests.{voidRequest}
 use borrow.Author.Needs.{needs}
 use Rattle.book.proofs.void_request.Statement.{statement}
 use Rattle.book.proofs.void_request.Tie as tie

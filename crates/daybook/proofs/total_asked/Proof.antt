@@ -1,7 +1,7 @@
 -- It is the definition, with the call that is always refused.
 -- Assumes nothing.
 use Rattle.asks.specs.declared.Asking.{Asking}
-use Rattle.book.specs.declared.Asked.{Asked}
+use Rattle.ledger.specs.declared.Asked.{Asked}
 use Prim.Native.Nat.{_+_, _/_, _%_}
 use mathlib.Core.Path.{ap}
 use borrow.Author.Needs.{needs}

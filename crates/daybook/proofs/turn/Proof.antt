@@ -44,12 +44,12 @@ use denote.Exit.{yes}
 use denote.Signature.{plain}
 use Rattle.postings.specs.declared.Posting.{Posting}
 use Rattle.sheet.specs.declared.Sheet.{Sheet}
-use Rattle.book.specs.declared.Outcome.{Outcome}
-use Rattle.book.specs.declared.TotalAnswer.{TotalAnswer}
+use Rattle.ledger.specs.declared.Outcome.{Outcome}
+use Rattle.ledger.specs.declared.TotalAnswer.{TotalAnswer}
 use Rattle.asks.specs.declared.Asking.{Asking}
 use Rattle.daybook.specs.declared.Stand.{Stand}
 use Rattle.journal.specs.Journal.{Performed}
-use Rattle.book.specs.Total.{totalOn}
+use Rattle.ledger.specs.Total.{totalOn}
 use Rattle.daybook.specs.Turns.{askedNext}
 use Rattle.daybook.specs.Running.{Running, Told, calledBy, toldTo, turned}
 use Rattle.journal.proofs.Again.{LentAgain, lends-again, comes-back}
@@ -61,13 +61,13 @@ use Rattle.sheet.proofs.Sheet as Z
 use Rattle.sheet.proofs.Sheet.Laws as Z′
 use Rattle.state.proofs.Book as B
 use Rattle.state.proofs.Book.Laws as B′
-use Rattle.book.proofs.Answer as N
-use Rattle.book.proofs.Asked as D
-use Rattle.book.proofs.Asked.Laws as D′
-use Rattle.book.proofs.Outcome as O
-use Rattle.book.proofs.Outcome.Laws as O′
-use Rattle.book.proofs.TotalAnswer as U
-use Rattle.book.proofs.TotalAnswer.Laws as U′
+use Rattle.ledger.proofs.Answer as N
+use Rattle.ledger.proofs.Asked as D
+use Rattle.ledger.proofs.Asked.Laws as D′
+use Rattle.ledger.proofs.Outcome as O
+use Rattle.ledger.proofs.Outcome.Laws as O′
+use Rattle.ledger.proofs.TotalAnswer as U
+use Rattle.ledger.proofs.TotalAnswer.Laws as U′
 use Rattle.asks.proofs.Asking as K
 use Rattle.asks.proofs.Asking.Laws as K′
 use Rattle.daybook.proofs.Stand as R
@@ -139,7 +139,7 @@ eqR = refl
 eqK : tyStruct (97 ∷ 115 ∷ 107 ∷ 115 ∷ 58 ∷ 58 ∷ 65 ∷ 115 ∷ 107 ∷ 105 ∷ 110 ∷ 103 ∷ []) (tcons tyD (tcons (tyInt w64) (tcons (tyInt w64) (tcons (tyInt w64) (tcons (tyInt w64) (tcons (tyInt w64) tnil)))))) ≡ tyK
 eqK = refl
 
-eqO : tyStruct (98 ∷ 111 ∷ 111 ∷ 107 ∷ 58 ∷ 58 ∷ 79 ∷ 117 ∷ 116 ∷ 99 ∷ 111 ∷ 109 ∷ 101 ∷ []) (tcons tyN (tcons (tyInt w64) (tcons (tyInt w64) (tcons tyB tnil)))) ≡ tyO
+eqO : tyStruct (108 ∷ 101 ∷ 100 ∷ 103 ∷ 101 ∷ 114 ∷ 58 ∷ 58 ∷ 79 ∷ 117 ∷ 116 ∷ 99 ∷ 111 ∷ 109 ∷ 101 ∷ []) (tcons tyN (tcons (tyInt w64) (tcons (tyInt w64) (tcons tyB tnil)))) ≡ tyO
 eqO = refl
 
 abbrev stayed : Stays (this.ended .signature .params) (this.ended .kept)

@@ -1,7 +1,7 @@
 -- By the answer.
 -- Assumes nothing.
-use Rattle.book.specs.declared.Answer.the-variants.{Posted}
-use Rattle.book.specs.declared.Answer.{Answer}
+use Rattle.ledger.specs.declared.Answer.the-variants.{Posted}
+use Rattle.ledger.specs.declared.Answer.{Answer}
 use Rattle.entries.specs.Entries.{answerText}
 use Rattle.text.specs.Bytes.{bytes}
 use Rattle.decimal.proofs.Laws.{then}

@@ -1,6 +1,6 @@
 -- The number, and behind one up to 4 the line.
 -- Assumes nothing.
-use Rattle.book.specs.Numbers.{refusalNumber, refusalLine}
+use Rattle.ledger.specs.Numbers.{refusalNumber, refusalLine}
 use borrow.Author.Tests.{lt-ltb, le-ltb}
 use Rattle.entries.specs.Entries.{refusalText}
 use Rattle.text.specs.Bytes.{bytes}

@@ -1,6 +1,6 @@
 -- The word, the refusal, the line end.
 -- Assumes nothing.
-use Rattle.book.specs.declared.Refusal.the-variants.{Text}
+use Rattle.ledger.specs.declared.Refusal.the-variants.{Text}
 use Rattle.entries.specs.Entries.{refusalText, sheetRefused}
 use Rattle.text.specs.Bytes.{bytes}
 use Rattle.decimal.proofs.Laws.{then, written-one}

@@ -2,7 +2,7 @@
 -- Assumes nothing.
 use mir.Facts.{toZ-ofZ}
 use lib.IntN.{ℤ}
-use Rattle.book.specs.declared.Verdict.{Verdict}
+use Rattle.ledger.specs.declared.Verdict.{Verdict}
 use Rattle.entries.specs.Entries.{totalText}
 use Rattle.text.specs.Bytes.{bytes}
 use Rattle.decimal.proofs.Laws.{then}

@@ -1,8 +1,8 @@
 -- `journal::call` meets its contract: `request_of` makes the request of the sheet and its parameters, and the rest is what every thin call does.
 -- Assumes nothing.
 use mathlib.Core.List.{[], _∷_}
-use Rattle.book.specs.Calls.{requestOf}
-use Rattle.book.specs.Requests.{callFor}
+use Rattle.ledger.specs.Calls.{requestOf}
+use Rattle.ledger.specs.Requests.{callFor}
 use Rattle.book.proofs.Well.{call-well}
 use Rattle.book.proofs.request_of.Symbol as make-def
 use Rattle.book.proofs.request_of.Met as make-thm

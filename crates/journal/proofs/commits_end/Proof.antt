@@ -7,8 +7,8 @@ use Prim.Native.Nat.{ℕ, _-_, _+_, _≤_}
 use native.Mathlib.Omega.{arith}
 use borrow.Author.Tests.{not-true, not-false, eqb-true, eqb-false}
 use lib.Dec.{leb, eqb}
-use Rattle.book.specs.declared.Asked.{Asked}
-use Rattle.book.specs.Requests.{askedAt}
+use Rattle.ledger.specs.declared.Asked.{Asked}
+use Rattle.ledger.specs.Requests.{askedAt}
 use Rattle.journal.specs.Stands.{AllCommit}
 use borrow.Author.Needs.{needs}
 use Rattle.journal.proofs.commits_end.Statement.{statement}

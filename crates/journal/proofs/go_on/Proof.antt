@@ -5,14 +5,14 @@ use mathlib.Core.Bool.{true, false, _&&_}
 use Prim.Native.Nat.{ℕ, _-_, _≤_}
 use native.Mathlib.Omega.{arith}
 use lib.Dec.{leb}
-use Rattle.book.specs.declared.Request.{Request}
-use Rattle.book.specs.declared.Decision.{Decision}
+use Rattle.ledger.specs.declared.Request.{Request}
+use Rattle.ledger.specs.declared.Decision.{Decision}
 use Rattle.book.specs.Sound.{Known, WellRead}
-use Rattle.book.specs.Calls.{decided}
-use Rattle.book.specs.Requests.{requestAt}
+use Rattle.ledger.specs.Calls.{decided}
+use Rattle.ledger.specs.Requests.{requestAt}
 use Rattle.book.proofs.Numbered.{posts-at}
 use Rattle.book.proofs.Well.{at-well}
-use Rattle.book.proofs.Places.{decided-fits}
+use Rattle.ledger.proofs.Places.{decided-fits}
 use Rattle.journal.specs.Journal.{posted}
 use Rattle.journal.proofs.Going.{known-at, call-next}
 use borrow.Author.Needs.{needs}

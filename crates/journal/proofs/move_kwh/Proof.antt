@@ -1,7 +1,7 @@
 -- `journal::move_kwh` meets its contract: `move_request` makes the request of its parameters, and the rest is what every thin call does.
 -- Assumes nothing.
 use mathlib.Core.List.{[], _∷_}
-use Rattle.book.specs.Requests.{moveRequest}
+use Rattle.ledger.specs.Requests.{moveRequest}
 use Rattle.book.proofs.Well.{move-well}
 use Rattle.book.proofs.move_request.Symbol as make-def
 use Rattle.book.proofs.move_request.Met as make-thm

@@ -45,33 +45,33 @@ use denote.Signature.{plain}
 use Rattle.postings.specs.declared.Posting.{Posting}
 use Rattle.sheet.specs.declared.Sheet.{Sheet}
 use Rattle.state.specs.declared.Book.{Book}
-use Rattle.book.specs.declared.Request.{Request}
+use Rattle.ledger.specs.declared.Request.{Request}
 use Rattle.postings.specs.declared.Scanned.{Scanned}
-use Rattle.book.specs.declared.Decision.{Decision}
-use Rattle.book.specs.declared.Outcome.{Outcome}
-use Rattle.book.specs.Calls.{decided, outcomeOf}
+use Rattle.ledger.specs.declared.Decision.{Decision}
+use Rattle.ledger.specs.declared.Outcome.{Outcome}
+use Rattle.ledger.specs.Calls.{decided, outcomeOf}
 use Rattle.book.specs.Sound.{WellRead}
-use Rattle.book.proofs.Places.{decided-fits}
+use Rattle.ledger.proofs.Places.{decided-fits}
 use Rattle.journal.specs.Journal.{scannedIn, posted}
 use Rattle.journal.proofs.Again.{LentAgain, lends-again, comes-back}
 use Rattle.journal.proofs.Posted.{decidedBy, performed-is}
 use Rattle.journal.proofs.Typed.{typed-scanned, typed-sheet, typed-book, typed-request, typed-decision, typed-outcome}
 use Rattle.postings.proofs.Posting as T
-use Rattle.book.proofs.Answer as N
+use Rattle.ledger.proofs.Answer as N
 use Rattle.postings.proofs.Plan as P
 use Rattle.postings.proofs.Plan.Laws as P′
 use Rattle.sheet.proofs.Sheet as Z
 use Rattle.sheet.proofs.Sheet.Laws as Z′
 use Rattle.state.proofs.Book as B
 use Rattle.state.proofs.Book.Laws as B′
-use Rattle.book.proofs.Request as K
-use Rattle.book.proofs.Request.Laws as K′
+use Rattle.ledger.proofs.Request as K
+use Rattle.ledger.proofs.Request.Laws as K′
 use Rattle.postings.proofs.Scanned as C
 use Rattle.postings.proofs.Scanned.Laws as C′
-use Rattle.book.proofs.Decision as S
-use Rattle.book.proofs.Decision.Laws as S′
-use Rattle.book.proofs.Outcome as O
-use Rattle.book.proofs.Outcome.Laws as O′
+use Rattle.ledger.proofs.Decision as S
+use Rattle.ledger.proofs.Decision.Laws as S′
+use Rattle.ledger.proofs.Outcome as O
+use Rattle.ledger.proofs.Outcome.Laws as O′
 use Rattle.journal.proofs.scan as scan
 use Rattle.journal.proofs.scan.Symbol as scan-def
 use Rattle.journal.proofs.scan.Symbol.{name as #journal·scan}
@@ -139,7 +139,7 @@ tyA = spell body.table (pointee (N.the-row .written))
 eqC : tyStruct (112 ∷ 111 ∷ 115 ∷ 116 ∷ 105 ∷ 110 ∷ 103 ∷ 115 ∷ 58 ∷ 58 ∷ 83 ∷ 99 ∷ 97 ∷ 110 ∷ 110 ∷ 101 ∷ 100 ∷ []) (tcons tyBool (tcons (tyInt w64) tnil)) ≡ tyC
 eqC = refl
 
-eqS : tyStruct (98 ∷ 111 ∷ 111 ∷ 107 ∷ 58 ∷ 58 ∷ 68 ∷ 101 ∷ 99 ∷ 105 ∷ 115 ∷ 105 ∷ 111 ∷ 110 ∷ []) (tcons tyP (tcons (tyInt w64) (tcons (tyInt w64) (tcons tyA (tcons (tyInt w64) (tcons (tyInt w64) (tcons tyB tnil))))))) ≡ tyS
+eqS : tyStruct (108 ∷ 101 ∷ 100 ∷ 103 ∷ 101 ∷ 114 ∷ 58 ∷ 58 ∷ 68 ∷ 101 ∷ 99 ∷ 105 ∷ 115 ∷ 105 ∷ 111 ∷ 110 ∷ []) (tcons tyP (tcons (tyInt w64) (tcons (tyInt w64) (tcons tyA (tcons (tyInt w64) (tcons (tyInt w64) (tcons tyB tnil))))))) ≡ tyS
 eqS = refl
 
 abbrev stayed : Stays (perform.ended .signature .params) (perform.ended .kept)

@@ -1,7 +1,7 @@
 -- `journal::release` meets its contract: `release_request` makes the request of its parameters, and the rest is what every thin call does.
 -- Assumes nothing.
 use mathlib.Core.List.{[], _∷_}
-use Rattle.book.specs.Requests.{releaseRequest}
+use Rattle.ledger.specs.Requests.{releaseRequest}
 use Rattle.book.proofs.Well.{release-well}
 use Rattle.book.proofs.release_request.Symbol as make-def
 use Rattle.book.proofs.release_request.Met as make-thm

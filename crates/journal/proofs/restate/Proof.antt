@@ -1,7 +1,7 @@
 -- `journal::restate` meets its contract: `restate_request` makes the request of the sheet and its parameters, and the rest is what every thin call does.
 -- Assumes nothing.
 use mathlib.Core.List.{[], _∷_}
-use Rattle.book.specs.Requests.{restateRequest}
+use Rattle.ledger.specs.Requests.{restateRequest}
 use Rattle.book.proofs.Well.{restate-well}
 use Rattle.book.proofs.restate_request.Symbol as make-def
 use Rattle.book.proofs.restate_request.Met as make-thm

@@ -1,7 +1,7 @@
 -- `journal::settle` meets its contract: `settle_request` makes the request of the sheet and its parameters, and the rest is what every thin call does.
 -- Assumes nothing.
 use mathlib.Core.List.{[], _∷_}
-use Rattle.book.specs.Requests.{settleRequest}
+use Rattle.ledger.specs.Requests.{settleRequest}
 use Rattle.book.proofs.Well.{settle-well}
 use Rattle.book.proofs.settle_request.Symbol as make-def
 use Rattle.book.proofs.settle_request.Met as make-thm

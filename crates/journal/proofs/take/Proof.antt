@@ -1,7 +1,7 @@
 -- `journal::take` meets its contract: `take_request` makes the request of its parameters, and the rest is what every thin call does.
 -- Assumes nothing.
 use mathlib.Core.List.{[], _∷_}
-use Rattle.book.specs.Requests.{takeRequest}
+use Rattle.ledger.specs.Requests.{takeRequest}
 use Rattle.book.proofs.Well.{take-well}
 use Rattle.book.proofs.take_request.Symbol as make-def
 use Rattle.book.proofs.take_request.Met as make-thm

@@ -44,9 +44,9 @@ use Rattle.postings.specs.declared.Posting.{Posting}
 use Rattle.postings.specs.declared.Scanned.{Scanned}
 use Rattle.sheet.specs.declared.Sheet.{Sheet}
 use Rattle.state.specs.declared.Book.{Book}
-use Rattle.book.specs.declared.TotalAnswer.{TotalAnswer}
+use Rattle.ledger.specs.declared.TotalAnswer.{TotalAnswer}
 use Rattle.journal.specs.Journal.{scannedIn}
-use Rattle.book.specs.Total.{totalDecided}
+use Rattle.ledger.specs.Total.{totalDecided}
 use Rattle.journal.proofs.Posted.{total-is}
 use Rattle.journal.proofs.Typed.{typed-sheet, typed-book, typed-scanned, typed-totalanswer}
 use Rattle.postings.proofs.Posting as T
@@ -56,8 +56,8 @@ use Rattle.state.proofs.Book as B
 use Rattle.state.proofs.Book.Laws as B′
 use Rattle.postings.proofs.Scanned as C
 use Rattle.postings.proofs.Scanned.Laws as C′
-use Rattle.book.proofs.TotalAnswer as U
-use Rattle.book.proofs.TotalAnswer.Laws as U′
+use Rattle.ledger.proofs.TotalAnswer as U
+use Rattle.ledger.proofs.TotalAnswer.Laws as U′
 use Rattle.journal.proofs.scan as scan
 use Rattle.journal.proofs.scan.Symbol as scan-def
 use Rattle.journal.proofs.scan.Symbol.{name as #journal·scan}

@@ -1,7 +1,7 @@
 -- `journal::void_hour` meets its contract: `void_request` makes the request of its parameters, and the rest is what every thin call does.
 -- Assumes nothing.
 use mathlib.Core.List.{[], _∷_}
-use Rattle.book.specs.Requests.{voidRequest}
+use Rattle.ledger.specs.Requests.{voidRequest}
 use Rattle.book.proofs.Well.{void-well}
 use Rattle.book.proofs.void_request.Symbol as make-def
 use Rattle.book.proofs.void_request.Met as make-thm
