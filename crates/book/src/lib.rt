@@ -1,5 +1,5 @@
-// The calls on the book: what each is refused for, and what an accepted one changes and posts. The functions over the lent journal
-// stand in the crate above; what they post is decided here.
+// The calls on the book, decided: the first of its rows that holds refuses a call, and an accepted one changes and posts what the crate `ledger` says.
+// The functions over the lent journal stand in the crate above.
 ghost use mathlib.Core.Path.{_≡_};
 ghost use mathlib.Core.Bool.{true, false, cond, _&&_, _||_};
 ghost use lib.Dec.{leb, ltb, eqb};
