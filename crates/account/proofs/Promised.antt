@@ -7,14 +7,13 @@ use mathlib.Core.List.{List, [], _∷_, _++_}
 use Prim.Native.Nat.{ℕ, zero, suc}
 use lib.Dec.{eqb}
 use lib.ListN.{length, replicate, take}
-use Rattle.finite.proofs.Tests.{and-left, and-right}
+use Rattle.finite.proofs.Tests.{and-right}
 use Rattle.sheet.specs.declared.Sheet.{Sheet}
 use Rattle.sheet.specs.Ranges.{sheetHolds}
 use Rattle.state.specs.Book.{emptyBook}
 use Rattle.state.specs.Ranges.{bookHolds}
 use Rattle.postings.specs.declared.Posting.{Posting}
 use Rattle.postings.specs.Journal.{noPosting, countHolds, postedHold}
-use Rattle.ledger.specs.Ledger.{Call}
 use Rattle.ledger.specs.Requests.{callFor}
 use Rattle.ledger.specs.Calls.{State, Ran, bookFits, carriedOut, requestOf, ranFrom, begun as begunState}
 use Rattle.book.specs.Sound.{Known}

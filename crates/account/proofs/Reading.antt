@@ -9,8 +9,6 @@ use borrow.Author.Tests.{le-ltb, lt-ltb}
 use lib.ListN.{length, drop, take, length-drop}
 use Rattle.text.specs.Text.{seek, before, valuePart, keyIs}
 use Rattle.text.specs.Rows.{word, valueOf}
-use Rattle.lines.specs.Lines.{placeAfter}
-use Rattle.account.specs.declared.Next.{Next}
 use Rattle.account.specs.declared.Next.the-variants.{Ends, Bad}
 use Rattle.account.specs.Day.{takeRow, takeOf, settleOf, nextAt}
 

@@ -1,7 +1,7 @@
 // Largest remainder: a total divided among any number of parts by their weights.
 ghost use mathlib.Core.Path.{_≡_};
-ghost use Prim.Native.Nat.{ℕ, _*_, _^_, _<_, _≤_};
-ghost use lib.ListN.{length, getD, replicate};
+ghost use Prim.Native.Nat.{_*_, _^_, _<_};
+ghost use lib.ListN.{length, replicate};
 ghost use Rattle.finite.specs.Finite.{tabulate};
 ghost use Rattle.apportion.specs.Shares.{remainderLeft, sumOf, quotient, remainder, shares as «the_shares», largest as «the_largest», addOnes, Fits, Due};
 

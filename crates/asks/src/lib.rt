@@ -1,12 +1,10 @@
 // The lines of a list of calls, as `replay` reads them behind the sheet: what a line asks, and where the next one stands.
 ghost use mathlib.Core.Path.{_≡_};
-ghost use mathlib.Core.Bool.{true};
 ghost use Prim.Native.Nat.{_+_, _<_, _≤_};
-ghost use lib.ListN.{length, drop};
+ghost use lib.ListN.{length};
 ghost use Rattle.asks.specs.Asks.{kindOf, numbersOf, rowOf, noAsked, notAsked, isEnd, behindRecord, kwhOf, askedOf, totalOf, nextOf, askingOf, askingAt};
 ghost use Rattle.asks.specs.Extent.{extentOf, lineEnd, lineEnds};
 use ledger::Asked;
-use text::Line;
 use text::Row;
 
 // What a line asks. Kinds 1 to 7 are take, release, move, settle, restate, void and total; a line of kind 0 is no call, and `refusal`

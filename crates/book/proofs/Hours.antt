@@ -3,7 +3,7 @@
 -- Assumes nothing.
 use mathlib.Core.Path.{_≡_, refl, sym, ap, _∙_}
 use mathlib.Core.Bool.{Bool, true, false, cond, not, _&&_}
-use mathlib.Core.List.{List, _++_}
+use mathlib.Core.List.{_++_}
 use Prim.Native.Nat.{ℕ, suc, _+_, _-_, _^_, _≤_, _<_}
 use native.Mathlib.Omega.{arith}
 use borrow.Author.Tests.{le-ltb, ltb-false}
@@ -17,7 +17,6 @@ use Rattle.record.specs.declared.Record.{Record}
 use Rattle.settlement.specs.declared.HourResult.{HourResult}
 use Rattle.settlement.specs.declared.HourSheet.{HourSheet}
 use Rattle.settlement.specs.Hour.{hourSheet}
-use Rattle.settlement.specs.Ranges.{hourBy}
 use Rattle.settlement.proofs.Taken.{hour-by, proportions-by}
 use Rattle.state.specs.declared.Book.{Book}
 use Rattle.state.specs.declared.HourEntry.{HourEntry}

@@ -1,11 +1,10 @@
 -- A settle, restate or void by what the sheet and the book have of its hour, as the code decides it. `applied-hour` (proofs/Hours.antt) says that it
 -- comes to what `requestDecided` says on the whole sheet and book.
-use Prim.Native.Nat.{ℕ, suc, _+_, _*_}
+use Prim.Native.Nat.{ℕ, _+_, _*_}
 use mathlib.Core.Bool.{Bool, true, false, cond, not}
 use mathlib.Core.List.{List, _++_}
 use lib.Dec.{eqb}
 use Rattle.units.specs.Units.{unitCount}
-use Rattle.lines.specs.declared.ReadAnswer.{ReadAnswer}
 use Rattle.record.specs.declared.Record.{Record}
 use Rattle.settlement.specs.declared.Amounts.{Amounts}
 use Rattle.settlement.specs.declared.HourResult.{HourResult}

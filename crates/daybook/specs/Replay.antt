@@ -7,12 +7,10 @@ use lib.ListN.{length}
 use Rattle.lines.specs.declared.ReadAnswer.{ReadAnswer}
 use Rattle.lines.specs.declared.ReadAnswer.the-variants.{Read, Refused}
 use Rattle.sheet.specs.declared.Sheet.{Sheet}
-use Rattle.sheet.specs.declared.SheetRead.{SheetRead}
 use Rattle.sheet.specs.Day.{readSheet}
 use Rattle.state.specs.declared.Book.{Book}
 use Rattle.state.specs.Book.{emptyBook}
 use Rattle.postings.specs.declared.Posting.{Posting}
-use Rattle.ledger.specs.declared.TotalAnswer.{TotalAnswer}
 use Rattle.ledger.specs.Calls.{requestOf}
 use Rattle.ledger.specs.Requests.{callFor}
 use Rattle.journal.specs.Journal.{Performed, performed}

@@ -5,7 +5,7 @@ ghost use Prim.Native.Nat.{_≤_};
 ghost use lib.ListN.{length};
 ghost use Rattle.decimal.specs.Output.{output, written};
 ghost use Rattle.daybook.specs.Turns.{totalAsked, askedNext, listedAfter, firstTables, turnText, ownList};
-ghost use Rattle.daybook.specs.Running.{toldTo, Running, turned, ranAll, started as «started_at»};
+ghost use Rattle.daybook.specs.Running.{toldTo, turned, ranAll, started as «started_at»};
 ghost use Rattle.daybook.specs.Replay.{turnsOf, callLines, replayed};
 use asks::Asking;
 use asks::Extent;

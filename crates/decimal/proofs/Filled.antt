@@ -1,12 +1,12 @@
 -- Bytes written behind others: each takes the next place while there is room, and none where there is not. From the start of a buffer on
 -- they are its first bytes.
 -- Assumes nothing.
-use mathlib.Core.Path.{_≡_, refl, ap, ap₂, sym, _∙_}
+use mathlib.Core.Path.{_≡_, ap, ap₂, sym, _∙_}
 use mathlib.Core.List.{List, [], _∷_, _++_, append-assoc}
-use Prim.Native.Nat.{ℕ, zero, suc, _+_, _≤_, min}
+use Prim.Native.Nat.{ℕ, suc, _+_, min}
 use native.Mathlib.Omega.{arith}
 use borrow.Author.Tests.{lt-ltb, le-ltb}
-use lib.ListN.{length, set, take, drop, length-append}
+use lib.ListN.{length, take, drop, length-append}
 use lib.Seq.{set-append-seam, take-nil, drop-nil}
 use Rattle.decimal.specs.Output.{Output, output, withByte, written, filled}
 

@@ -1,6 +1,6 @@
 -- What is left by a list of calls, in the two cases of the sheet's text.
 -- Assumes nothing.
-use mathlib.Core.Path.{_≡_, refl, sym, ap, _∙_}
+use mathlib.Core.Path.{_≡_, sym, ap, _∙_}
 use mathlib.Core.List.{List}
 use Prim.Native.Nat.{ℕ, min}
 use lib.IntN.{ℤ}
@@ -8,7 +8,6 @@ use Rattle.lines.specs.declared.TextRefusal.{TextRefusal}
 use Rattle.lines.specs.declared.ReadAnswer.{ReadAnswer}
 use Rattle.lines.specs.declared.ReadAnswer.the-variants.{Read, Refused}
 use Rattle.lines.specs.Refusals.{textNumber, textLine}
-use Rattle.sheet.specs.declared.Sheet.{Sheet}
 use Rattle.sheet.specs.declared.SheetRead.{SheetRead}
 use Rattle.sheet.specs.Day.{readSheet}
 use Rattle.exports.specs.Exports.{mostPlaces, heldNumbers, amountNumbers, Owned, ownedOf, Left, refusedSheet, carriedOut, leftBy, calledOf}

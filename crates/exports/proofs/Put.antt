@@ -5,7 +5,6 @@ use mathlib.Core.List.{List}
 use Prim.Native.Nat.{ℕ, zero, suc, _+_}
 use lib.IntN.{ℤ}
 use lib.ListN.{length, getD, set, length-set}
-use Rattle.settlement.specs.declared.Amounts.{Amounts}
 use Rattle.state.specs.declared.Book.{Book}
 use Rattle.state.specs.Book.{pastAmounts}
 use Rattle.exports.specs.Exports.{put, itemNumbers, amountsTo}

@@ -1,7 +1,7 @@
 -- What an accepted settle or restate tells: the sheet holds, the record was read, and every value of it is in its range.
 -- Assumes nothing.
-use mathlib.Core.Path.{_≡_, refl, ap, sym, _∙_, subst}
-use mathlib.Core.Bool.{Bool, true, false, cond, not, _&&_, _||_}
+use mathlib.Core.Path.{_≡_, refl}
+use mathlib.Core.Bool.{true, false, _&&_}
 use mathlib.Core.List.{List, [], _∷_, _++_}
 use Prim.Native.Nat.{ℕ, _+_, _≤_, _<_}
 use native.Mathlib.Omega.{arith}
@@ -10,7 +10,6 @@ use lib.Dec.{leb}
 use lib.ListN.{getD}
 use Rattle.finite.proofs.Tests.{and-left, and-right}
 use Rattle.finite.proofs.Tables.{getD-tabulate}
-use Rattle.energy.specs.declared.GrossKwh.{GrossKwh}
 use Rattle.units.specs.Units.{memberAt}
 use Rattle.units.proofs.Laws.{place-lt}
 use Rattle.lines.specs.declared.ReadAnswer.{ReadAnswer}
@@ -20,7 +19,7 @@ use Rattle.sheet.specs.Ranges.{sheetHolds, monthlyOf, unitAt}
 use Rattle.sheet.proofs.InRange.{in-range}
 use Rattle.record.proofs.InRange.{InRange}
 use Rattle.record.proofs.Laws.{read-ranges}
-use Rattle.ledger.specs.Ledger.{Ledger, Condition, when, stands, withHeld, given, always, textCondition, takeConditions, releaseConditions, moveConditions, voidConditions, recordConditions, badHour}
+use Rattle.ledger.specs.Ledger.{Ledger, Condition, stands, withHeld, given, always, textCondition, takeConditions, releaseConditions, moveConditions, voidConditions, badHour}
 use Rattle.ledger.proofs.Told.{Clear, none, more}
 
 pub clear-right : (xs ys : List Condition) → Clear (xs ++ ys) → Clear ys

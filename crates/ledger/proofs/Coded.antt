@@ -1,17 +1,15 @@
 -- Every list of calls is the meaning of some numbers and one text: the texts stand one after the other, each call names its own part, and
 -- its eight numbers stand behind those of the calls before it. They fit machine words where the calls' own numbers and the text's length do.
 -- Assumes nothing.
-use mathlib.Core.Path.{_≡_, refl, sym, ap, _∙_, subst}
+use mathlib.Core.Path.{_≡_, refl, sym, ap, _∙_}
 use mathlib.Core.List.{List, [], _∷_, _++_, append-assoc}
 use Prim.Native.Nat.{ℕ, zero, suc, _+_, _-_, _*_, _/_, _≤_, _<_}
 use native.Mathlib.Nat.{not-suc-le-zero, zero-add}
 use native.Mathlib.Omega.{arith}
 use borrow.Author.Tests.{lt-ltb}
-use lib.ListN.{length, length-append, getD, take as firstOf, drop}
+use lib.ListN.{length, length-append, getD, take as firstOf}
 use lib.Seq.{getD-append-add, drop-append-seam, take-append-seam, ext-getD}
-use Rattle.finite.specs.Finite.{tabulate}
 use Rattle.finite.proofs.Tables.{length-tabulate, getD-tabulate}
-use Rattle.ledger.specs.declared.Asked.{Asked}
 use Rattle.ledger.specs.Ledger.{Call, take, release, move, settle, restate, void}
 use Rattle.ledger.specs.Requests.{partOf, callFor, askedFrom, askedAt, callAt, callsIn, textOf, numbersOf, textsOf, numbersFrom, Below, given, AllBelow}
 

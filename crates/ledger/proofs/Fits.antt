@@ -1,9 +1,9 @@
 -- 12 holds of the book and the journal exactly where it holds of a ledger they agree with: part by part.
 -- Assumes nothing.
-use mathlib.Core.Path.{_≡_, refl, ap, sym, _∙_, subst}
+use mathlib.Core.Path.{_≡_, refl, ap, sym, _∙_}
 use mathlib.Core.Bool.{Bool, true, false, cond, _&&_}
 use mathlib.Core.List.{List, [], _∷_}
-use Prim.Native.Nat.{ℕ, _+_, _-_, _≤_, _<_}
+use Prim.Native.Nat.{ℕ, _+_, _-_, _≤_}
 use native.Mathlib.Omega.{arith}
 use borrow.Author.Tests.{leb-true, le-leb, eqb-true, eq-eqb}
 use lib.Dec.{leb, eqb}
@@ -15,7 +15,6 @@ use Rattle.units.specs.Units.{memberAt}
 use Rattle.offer.specs.Offer.{lastQuantity}
 use Rattle.sheet.specs.declared.Sheet.{Sheet}
 use Rattle.sheet.specs.Ranges.{unitAt, offerAt}
-use Rattle.state.specs.Book.{commitmentAt, markAt}
 use Rattle.state.specs.Ranges.{bookHolds, limitAt}
 use Rattle.state.proofs.InRange.{BookInRange, book-in-range, book-holds-back, limit-in, limit-outside}
 use Rattle.postings.specs.declared.Posting.{Posting}

@@ -2,15 +2,14 @@
 -- Assumes nothing.
 use mathlib.Core.Path.{_≡_, refl, ap, sym, _∙_, subst}
 use mathlib.Core.Bool.{Bool, true, false, cond, not, _&&_, _||_}
-use mathlib.Core.List.{List, [], _∷_, _++_}
+use mathlib.Core.List.{List, []}
 use Prim.Native.Nat.{ℕ, _+_, _-_, _≤_, _<_}
 use native.Mathlib.Decide.{ℕ-discrete}
 use native.Mathlib.Omega.{arith}
-use borrow.Author.Tests.{ltb-true, ltb-false, lt-ltb, le-ltb, leb-true, leb-false, le-leb, lt-leb, eq-eqb, ne-eqb, eqb-true, not-false, not-true}
+use borrow.Author.Tests.{lt-ltb, le-ltb, leb-true, leb-false, eq-eqb, ne-eqb}
 use lib.Dec.{ltb, leb, eqb}
 use lib.ListN.{length, getD, take, drop}
 use lib.Seq.{paste, paste-zero}
-use Rattle.finite.proofs.Tests.{and-left, and-right, and-both}
 use Rattle.energy.specs.declared.HubKwh.{HubKwh}
 use Rattle.energy.specs.declared.HubGrains.{HubGrains}
 use Rattle.settlement.specs.declared.Amounts.{Amounts}
@@ -19,8 +18,8 @@ use Rattle.units.specs.Units.{memberAt, isMember}
 use Rattle.units.proofs.Laws.{member, member-place}
 use Rattle.sheet.specs.declared.Sheet.{Sheet}
 use Rattle.state.specs.declared.Book.{Book}
-use Rattle.state.specs.Book.{Sized, commitmentAt, markAt, energyAt, amountAt, itemOf, noGrains, pastAmounts, withCommitment}
-use Rattle.state.proofs.Writing.{commitment-same, commitment-other, commitment-mark, commitment-energy, commitment-amounts, commitment-sized}
+use Rattle.state.specs.Book.{Sized, commitmentAt, itemOf, noGrains, pastAmounts}
+use Rattle.state.proofs.Writing.{commitment-same, commitment-other}
 use Rattle.state.proofs.InRange.{limit-in}
 use Rattle.postings.specs.declared.Posting.{Posting}
 use Rattle.postings.specs.Plan.{padded}
@@ -33,7 +32,6 @@ use Rattle.ledger.specs.Agrees.{markOf, Agrees}
 use Rattle.ledger.proofs.Rows.{refusedBy}
 use Rattle.ledger.proofs.Fits.{alike}
 use Rattle.ledger.proofs.Held.{held-at}
-use Rattle.ledger.proofs.Accepted.{hour-told}
 
 -- the state after a decision
 abbrev pub after : State → Decision → State

@@ -1,13 +1,13 @@
 -- The postings of a call, as the book makes them and as the ledger says them, and the journal after them.
 -- Assumes nothing.
-use mathlib.Core.Path.{_≡_, refl, ap, sym, _∙_, subst}
+use mathlib.Core.Path.{_≡_, refl, ap, _∙_}
 use mathlib.Core.Bool.{Bool, true, false, cond}
-use mathlib.Core.List.{List, [], _∷_, _++_, append-nil}
+use mathlib.Core.List.{List, [], _++_, append-nil}
 use Prim.Native.Nat.{ℕ, zero, suc, _+_, _-_, _*_, _≤_, _<_}
 use native.Mathlib.Numerals.{add-one}
 use native.Mathlib.Omega.{arith}
-use lib.IntN.{ℤ, _-ℤ_}
-use lib.ListN.{length, getD, take, drop, replicate, length-append}
+use lib.IntN.{_-ℤ_}
+use lib.ListN.{length, getD, take, drop, length-append}
 use lib.Seq.{take-at, paste, take-paste, drop-paste, length-paste}
 use Rattle.finite.specs.Finite.{tabulate}
 use Rattle.finite.proofs.Tables.{tabulate-same, length-tabulate}

@@ -1,9 +1,9 @@
 -- A list of calls with one more call at its end: that call comes upon what the others left, and its reply stands last.
 -- Assumes nothing.
-use mathlib.Core.Path.{_≡_, refl, ap, _∙_}
+use mathlib.Core.Path.{_≡_, refl, ap}
 use mathlib.Core.List.{List, [], _∷_, _++_}
 use Rattle.sheet.specs.declared.Sheet.{Sheet}
-use Rattle.ledger.specs.Ledger.{Call, Reply}
+use Rattle.ledger.specs.Ledger.{Call}
 use Rattle.ledger.specs.Calls.{State, Ran, carriedOut, requestOf, ranFrom}
 
 module _ (s : Sheet) (c : Call) where

@@ -16,7 +16,6 @@ use Rattle.sheet.specs.Ranges.{sheetHolds}
 use Rattle.sheet.proofs.InRange.{in-range}
 use Rattle.settlement.specs.declared.Amounts.{Amounts}
 use Rattle.state.specs.declared.Book.{Book}
-use Rattle.state.specs.Book.{noResult, openMark}
 use Rattle.state.specs.Ranges.{bookHolds}
 use Rattle.postings.specs.Journal.{countHolds}
 use Rattle.postings.specs.Plan.{planOf}
@@ -26,7 +25,7 @@ use Rattle.ledger.specs.declared.Verdict.{Verdict}
 use Rattle.ledger.specs.declared.Verdict.the-variants.{Accepted as passes, Refused as fails}
 use Rattle.ledger.specs.declared.Request.{Request}
 use Rattle.ledger.specs.declared.Decision.{Decision}
-use Rattle.ledger.specs.Calls.{Row, row, verdict, isSettled, heldKwh, shortOf, textRows, takeRows, releaseRows, moveRows, recordRows, voidRows, requestRows, rowsOf, byVerdict, refusedWith, changedTo, postedWith, recordedIn, voidedAt, withHeld, acceptedIn, decided, bookFits}
+use Rattle.ledger.specs.Calls.{Row, row, verdict, isSettled, heldKwh, shortOf, textRows, takeRows, releaseRows, moveRows, recordRows, voidRows, requestRows, rowsOf, byVerdict, refusedWith, changedTo, recordedIn, voidedAt, withHeld, acceptedIn, decided, bookFits}
 
 abbrev FitsIn : ℕ → Decision → Type 0
 FitsIn places d = (d .n ≤ 40) × (d .n ≤ places - d .at) × (d .n ≤ length (d .plan .row))

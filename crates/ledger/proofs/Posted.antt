@@ -1,25 +1,24 @@
 -- The postings of a unit and item add up to its amounts over the hours that stand: a call that posts changes one hour's amount, and posts
 -- the new value less the old one; a call that moves a commitment does so in an open hour, whose amounts are 0.
 -- Assumes nothing.
-use mathlib.Core.Path.{_≡_, refl, ap, sym, _∙_, subst}
-use mathlib.Core.Bool.{Bool, true, false, cond, not, _&&_, _||_}
+use mathlib.Core.Path.{_≡_, refl, ap, sym, _∙_}
+use mathlib.Core.Bool.{Bool, true, false, cond}
 use mathlib.Core.List.{List, [], _∷_, _++_}
 use Prim.Native.Nat.{ℕ, zero, suc, _+_, _-_, _≤_, _<_}
 use native.Mathlib.Nat.{not-suc-le-zero}
 use native.Mathlib.Decide.{ℕ-discrete}
 use native.Mathlib.Omega.{arith}
-use borrow.Author.Tests.{eqb-true, eqb-false, eq-eqb, ne-eqb}
-use lib.Dec.{eqb}
+use borrow.Author.Tests.{eq-eqb, ne-eqb}
 use lib.IntN.{ℤ, pos, _+ℤ_, _-ℤ_, +ℤ-idl, +ℤ-idr}
 use Rattle.finite.specs.Finite.{tabulate}
 use Rattle.units.specs.Units.{memberAt}
 use Rattle.units.proofs.Laws.{place-lt}
 use Rattle.sheet.specs.declared.Sheet.{Sheet}
 use Rattle.postings.specs.declared.Posting.{Posting}
-use Rattle.ledger.specs.Ledger.{Call, take, release, move, settle, restate, void, Kept, none, kept, Ledger, Outcome, stands, at, withHeld, amountFor, amountIn, posts, restated, given, always, takeConditions, releaseConditions, moveConditions, voidConditions, conditionsOf, startOf, effectOf, step, run}
+use Rattle.ledger.specs.Ledger.{Call, take, release, move, settle, restate, void, Kept, none, kept, Ledger, Outcome, stands, at, withHeld, amountFor, amountIn, posts, restated, conditionsOf, startOf, effectOf, step, run}
 use Rattle.postings.specs.Journal.{totalOf}
 use Rattle.ledger.specs.Reckoned.{sumZ, ofItem}
-use Rattle.ledger.proofs.Told.{Clear, none, more, Told, refuses, accepts, step-told}
+use Rattle.ledger.proofs.Told.{Clear, none, Told, refuses, accepts, step-told}
 use Rattle.ledger.proofs.Accepted.{record-told, apart, take-open, release-open, move-open, void-hour}
 use Rattle.ledger.proofs.Signed.{sumZ-same, sumZ-none, sumZ-change, sumZ-single, add-append, add-tabulate}
 

@@ -1,33 +1,29 @@
 -- Settle, restate and void on a book and a journal that agree with a ledger: the hour's energies and amounts become the record's, or 0, and
 -- the differences are posted after the count.
 -- Assumes nothing.
-use mathlib.Core.Path.{_≡_, refl, ap, sym, _∙_, subst}
-use mathlib.Core.Bool.{Bool, true, false, cond, not, _&&_, _||_}
-use mathlib.Core.List.{List, [], _∷_, _++_}
+use mathlib.Core.Path.{_≡_, refl, ap, sym, _∙_}
+use mathlib.Core.Bool.{Bool, true, false}
+use mathlib.Core.List.{List, _++_}
 use Prim.Native.Nat.{ℕ, _+_, _-_, _*_, _≤_, _<_, min}
 use native.Mathlib.Decide.{ℕ-discrete}
 use native.Mathlib.Omega.{arith}
-use borrow.Author.Tests.{ltb-false, eq-eqb, ne-eqb}
-use lib.Dec.{eqb}
-use lib.Count.{ones}
-use lib.IntN.{ℤ, pos}
+use borrow.Author.Tests.{eq-eqb, ne-eqb}
 use lib.ListN.{length, getD, take, drop, length-append}
 use lib.Seq.{paste}
 use Rattle.energy.specs.declared.HubKwh.{HubKwh}
 use Rattle.energy.specs.declared.HubGrains.{HubGrains}
-use Rattle.units.specs.Units.{memberAt, members, unitCount}
+use Rattle.units.specs.Units.{memberAt, unitCount}
 use Rattle.units.proofs.Laws.{count-members}
 use Rattle.sheet.specs.declared.Sheet.{Sheet}
 use Rattle.settlement.specs.declared.Amounts.{Amounts}
 use Rattle.settlement.specs.declared.HourResult.{HourResult}
 use Rattle.state.specs.declared.Book.{Book}
-use Rattle.state.specs.Sizes.{items, entryOf}
-use Rattle.state.specs.Book.{Sized, commitmentAt, markAt, energyAt, amountsAt, amountAt as storedAt, itemOf, noKwh, noGrains, pastAmounts, hourAmounts, withHour}
+use Rattle.state.specs.Sizes.{entryOf}
+use Rattle.state.specs.Book.{markAt, energyAt, amountAt as storedAt, itemOf, noKwh, noGrains, pastAmounts, hourAmounts, withHour}
 use Rattle.state.proofs.Writing.{hour-amount, hour-commitments, mark-same, mark-other, energy-in, amount-in, energy-outside, amount-outside, energy-other, amount-other, hour-sized}
 use Rattle.postings.specs.declared.Posting.{Posting}
 use Rattle.postings.specs.Plan.{postingsOf, padded, planOf}
-use Rattle.ledger.specs.declared.Decision.{Decision}
-use Rattle.ledger.specs.Ledger.{Kept, none, kept, Ledger, Reply, Outcome, at, energyFor, amountFor, posts, restated}
+use Rattle.ledger.specs.Ledger.{Kept, Ledger, Reply, at, energyFor, amountFor, posts, restated}
 use Rattle.ledger.specs.Calls.{State, postedWith}
 use Rattle.ledger.specs.Agrees.{markOf, Agrees}
 use Rattle.ledger.proofs.Follow.{after, Follows}

@@ -1,7 +1,7 @@
 -- The promise about every list of calls: each field of Demand from the calls that follow the ledger, and from what the ledger's calls and
 -- replies reckon up to.
 -- Assumes nothing.
-use mathlib.Core.Path.{_≡_, refl, ap, sym, _∙_, subst}
+use mathlib.Core.Path.{_≡_, refl, ap, sym, _∙_}
 use mathlib.Core.Bool.{Bool, true, false}
 use mathlib.Core.List.{List}
 use Prim.Native.Nat.{ℕ, _+_, _-_, _≤_, _<_}
@@ -9,41 +9,38 @@ use native.Mathlib.Nat.{zero-add}
 use native.Mathlib.Omega.{arith}
 use borrow.Author.Tests.{leb-true}
 use lib.Dec.{leb}
-use lib.IntN.{ℤ, pos}
+use lib.IntN.{ℤ}
 use lib.ListN.{length, getD, take}
 use lib.Seq.{ext-getD}
 use Rattle.finite.specs.Finite.{tabulate}
 use Rattle.finite.proofs.Tests.{and-left, and-right}
 use Rattle.finite.proofs.Tables.{length-tabulate, getD-tabulate, tabulate-same}
-use Rattle.energy.specs.declared.HubKwh.{HubKwh}
-use Rattle.energy.specs.declared.HubGrains.{HubGrains}
 use Rattle.units.specs.Units.{isMember, memberAt}
 use Rattle.units.proofs.Laws.{member}
 use Rattle.allocation.specs.Fill.{grainsAt}
-use Rattle.allocation.specs.Allocation.{Allocated}
 use Rattle.sheet.specs.declared.Sheet.{Sheet}
 use Rattle.sheet.specs.Ranges.{sheetHolds}
 use Rattle.record.specs.declared.Record.{Record}
-use Rattle.settlement.specs.Hour.{hourResult, plantOf}
+use Rattle.settlement.specs.Hour.{hourResult}
 use Rattle.settlement.proofs.Laws.{energy-length, hour-allocated}
 use Rattle.state.specs.Book.{commitmentAt, energyAt, hourCommitments, noGrains}
 use Rattle.postings.specs.declared.Posting.{Posting}
 use Rattle.postings.specs.Journal.{postedHold, totalOf}
 use Rattle.postings.proofs.Totals.{total-nothing}
 use Rattle.ledger.specs.declared.Verdict.the-variants.{Accepted}
-use Rattle.ledger.specs.Ledger.{Call, void, Kept, none, kept, Ledger, Reply, emptyLedger, hourHeld, energyFor, amountFor, amountIn, conditionsOf, run}
-use Rattle.ledger.specs.Reckoned.{accepted, took, gave, lastFrom, sumZ}
+use Rattle.ledger.specs.Ledger.{Call, void, Kept, kept, Ledger, Reply, emptyLedger, hourHeld, energyFor, amountFor, amountIn, run}
+use Rattle.ledger.specs.Reckoned.{accepted, took, gave, sumZ}
 use Rattle.ledger.specs.Calls.{State, bookFits, ranFrom, begun}
 use Rattle.ledger.specs.Total.{totalBy, itemOf, totalDecided, totalOn}
 use Rattle.ledger.specs.Agrees.{Agrees}
-use Rattle.ledger.specs.Demand.{noneHolds, replyAt, hourEnergies, reckoned, standing, Demand}
+use Rattle.ledger.specs.Demand.{hourEnergies, reckoned, standing, Demand}
 use Rattle.ledger.proofs.Fits.{fits-same}
 use Rattle.ledger.proofs.Fitting.{run-fits}
 use Rattle.ledger.proofs.Held.{run-held}
 use Rattle.ledger.proofs.Standing.{run-record}
 use Rattle.ledger.proofs.Signed.{sumZ-same, sumZ-none}
 use Rattle.ledger.proofs.Posted.{run-sums, sums-open, sums-close}
-use Rattle.ledger.proofs.Ready.{Ready, StandsFor, run-ready}
+use Rattle.ledger.proofs.Ready.{Ready, run-ready}
 use Rattle.ledger.proofs.Settled.{hour-ready}
 use Rattle.ledger.proofs.Whole.{followed, empty-agrees, empty-ready, step-accepted, reply-of}
 

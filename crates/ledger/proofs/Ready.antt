@@ -1,17 +1,16 @@
 -- Every record that the ledger keeps was read under a sheet that passes 9, and stands with commitments that its offers allow: a settle is
 -- accepted only then, and the commitments of a standing hour do not change.
 -- Assumes nothing.
-use mathlib.Core.Path.{_≡_, refl, ap, sym, _∙_, subst}
-use mathlib.Core.Bool.{Bool, true, false, cond, not, _&&_, _||_}
+use mathlib.Core.Path.{_≡_, ap, sym, _∙_, subst}
+use mathlib.Core.Bool.{true, false, not}
 use mathlib.Core.List.{List, [], _∷_, _++_}
-use Prim.Native.Nat.{ℕ, zero, suc, _+_, _-_, _≤_, _<_}
+use Prim.Native.Nat.{ℕ, _+_, _-_, _≤_, _<_}
 use native.Mathlib.Decide.{ℕ-discrete}
 use native.Mathlib.Omega.{arith}
 use borrow.Author.Tests.{leb-true, not-false, eq-eqb, ne-eqb}
-use lib.Dec.{leb, eqb}
-use lib.ListN.{length}
+use lib.Dec.{leb}
 use Rattle.finite.specs.Finite.{every}
-use Rattle.finite.proofs.Tests.{and-left, and-right, every-at}
+use Rattle.finite.proofs.Tests.{and-left, every-at}
 use Rattle.units.specs.Units.{memberAt}
 use Rattle.units.proofs.Laws.{place-lt}
 use Rattle.offer.proofs.Steps.{holds, last-most}

@@ -1,9 +1,9 @@
 -- Two ladders of tests side by side: where each row of the book's list has the number of the ledger's condition beside it, and both hold
 -- alike as long as those before do not, the two lists decide alike.
 -- Assumes nothing.
-use mathlib.Core.Path.{_≡_, refl, ap, sym, _∙_, subst}
+use mathlib.Core.Path.{_≡_, refl, _∙_, subst}
 use mathlib.Core.Bool.{Bool, true, false, cond}
-use mathlib.Core.List.{List, [], _∷_, _++_}
+use mathlib.Core.List.{List, [], _∷_}
 use Prim.Native.Nat.{ℕ}
 use Rattle.ledger.specs.declared.Refusal.{Refusal}
 use Rattle.ledger.specs.declared.Verdict.the-variants.{Refused as fails}

@@ -1,10 +1,10 @@
 -- What the settlement promises of an hour that stands, as the book uses it: nothing of its definition is opened.
 -- Assumes nothing.
-use mathlib.Core.Path.{_≡_, refl, ap, sym, _∙_}
+use mathlib.Core.Path.{_≡_, refl, ap, _∙_}
 use mathlib.Core.Bool.{Bool, true, false}
-use mathlib.Core.List.{List, []}
-use Prim.Native.Nat.{ℕ, zero, suc, _+_, _≤_, _<_}
-use lib.IntN.{ℤ, pos}
+use mathlib.Core.List.{List}
+use Prim.Native.Nat.{ℕ, zero, suc, _+_, _<_}
+use lib.IntN.{pos}
 use lib.ListN.{length, getD, replicate}
 use Rattle.finite.proofs.Tables.{getD-tabulate}
 use Rattle.energy.specs.declared.HubKwh.{HubKwh}
@@ -12,11 +12,11 @@ use Rattle.units.specs.Units.{memberAt}
 use Rattle.units.proofs.Laws.{place-lt}
 use Rattle.sheet.specs.declared.Sheet.{Sheet}
 use Rattle.record.specs.declared.Record.{Record}
-use Rattle.settlement.specs.Ranges.{HourRead, HourReady}
+use Rattle.settlement.specs.Ranges.{HourReady}
 use Rattle.settlement.specs.declared.Amounts.{Amounts}
 use Rattle.settlement.specs.Hour.{hourResult, pastAmounts}
 use Rattle.settlement.proofs.Laws.{energy-outside, amounts-none, amount-is}
-use Rattle.ledger.specs.Ledger.{Kept, none, kept, hourHeld, amountAt, energyFor, amountFor}
+use Rattle.ledger.specs.Ledger.{Kept, none, kept, hourHeld, energyFor, amountFor}
 use Rattle.ledger.proofs.Ready.{StandsFor}
 
 pub hour-ready : (sheet : Sheet) (hour : ℕ) (r : Record) (f : ℕ → ℕ) → StandsFor sheet hour r f → HourReady sheet r (hourHeld f)

@@ -1,19 +1,18 @@
 -- Every call on a book and a journal that agree with a ledger is answered as the ledger answers it, and leaves them in agreement.
 -- Assumes nothing.
 use mathlib.Core.Path.{_≡_, refl, ap, sym, _∙_, subst}
-use mathlib.Core.Bool.{Bool, true, false, cond, not, _&&_, _||_}
+use mathlib.Core.Bool.{Bool, true, false, not, _||_}
 use mathlib.Core.List.{List, [], _∷_, _++_}
-use Prim.Native.Nat.{ℕ, _+_, _-_, _*_, _≤_, _<_, min}
+use Prim.Native.Nat.{ℕ, _+_, _-_, _*_, _≤_, min}
 use native.Mathlib.Omega.{arith}
-use borrow.Author.Tests.{ltb-false, eqb-false, not-false}
-use lib.Dec.{ltb, leb, eqb}
-use lib.IntN.{ℤ, pos}
-use lib.ListN.{length, getD, take as firstOf}
+use borrow.Author.Tests.{ltb-false, not-false}
+use lib.Dec.{ltb}
+use lib.ListN.{length, take as firstOf}
 use Rattle.finite.proofs.Tables.{tabulate-same}
 use Rattle.energy.specs.declared.HubKwh.{HubKwh}
 use Rattle.energy.specs.declared.HubGrains.{HubGrains}
 use Rattle.settlement.specs.declared.Amounts.{Amounts}
-use Rattle.units.specs.Units.{isMember, memberAt, unitCount}
+use Rattle.units.specs.Units.{isMember, unitCount}
 use Rattle.units.proofs.Laws.{member}
 use Rattle.lines.specs.declared.ReadAnswer.{ReadAnswer}
 use Rattle.lines.specs.declared.ReadAnswer.the-variants.{Read, Refused}
@@ -22,19 +21,17 @@ use Rattle.sheet.specs.Ranges.{sheetHolds}
 use Rattle.sheet.proofs.InRange.{in-range}
 use Rattle.record.specs.declared.Record.{Record}
 use Rattle.settlement.specs.Hour.{hourResult}
-use Rattle.state.specs.declared.Book.{Book}
-use Rattle.state.specs.Book.{Sized, commitmentAt, hourCommitments, noResult, noGrains, openMark, settledMark}
+use Rattle.state.specs.Book.{commitmentAt, hourCommitments, noResult, openMark, settledMark}
 use Rattle.state.proofs.Writing.{commitment-mark, commitment-energy, commitment-amounts, commitment-sized}
 use Rattle.state.proofs.Empty.{none-energy, none-amounts, none-amount}
 use Rattle.postings.specs.Journal.{postedHold}
-use Rattle.ledger.specs.declared.Decision.{Decision}
 use Rattle.ledger.specs.Numbers.{refusalNumber, refusalLine}
-use Rattle.ledger.specs.Ledger.{Call, take, release, move, settle, restate, void, Kept, none, kept, Ledger, Outcome, Condition, when, stands, given, hourHeld, always, textCondition, takeConditions, releaseConditions, moveConditions, recordConditions, voidConditions, noRoom, ledgerFits, badHour as badHourOf, placeOf, restated, changed, startOf, conditionsOf, effectOf, step, withHeld as withHeldOf}
-use Rattle.ledger.specs.Calls.{State, Row, row, alwaysRows, takeRows, releaseRows, moveRows, textRows, recordRows, voidRows, requestRows, rowsOf, heldKwh, withHeld, changedTo, refusedWith, postedWith, placeAfter, recordedIn, acceptedIn, decided, requestOf, recordRequest, isSettled}
+use Rattle.ledger.specs.Ledger.{Call, take, release, move, settle, restate, void, none, kept, Ledger, Condition, when, stands, given, hourHeld, always, textCondition, takeConditions, releaseConditions, moveConditions, recordConditions, voidConditions, noRoom, ledgerFits, badHour as badHourOf, placeOf, restated, changed, conditionsOf, effectOf, step, withHeld as withHeldOf}
+use Rattle.ledger.specs.Calls.{State, Row, alwaysRows, takeRows, releaseRows, moveRows, textRows, recordRows, voidRows, requestRows, heldKwh, withHeld, changedTo, postedWith, placeAfter, recordedIn, acceptedIn, decided, requestOf, recordRequest}
 use Rattle.ledger.specs.Agrees.{Agrees}
 use Rattle.ledger.proofs.Told.{Clear, none, more}
 use Rattle.ledger.proofs.Accepted.{Taken, given-range, hour-told, record-told, clear-right, apart, void-hour}
-use Rattle.ledger.proofs.Ready.{Ready, StandsFor, fits-told, taken-stands}
+use Rattle.ledger.proofs.Ready.{Ready, fits-told, taken-stands}
 use Rattle.ledger.proofs.Rows.{Beside, done, next, beside}
 use Rattle.ledger.proofs.Fits.{fits-same}
 use Rattle.ledger.proofs.Follow.{Follows, hour-same, stays, settled-same, held-same, over-same, changes, written}

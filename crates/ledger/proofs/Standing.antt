@@ -1,14 +1,12 @@
 -- The record that the ledger keeps for an hour is the last accepted one that no accepted void follows: each call leaves what its reply says.
 -- Assumes nothing.
-use mathlib.Core.Path.{_≡_, refl, ap, sym, _∙_}
-use mathlib.Core.Bool.{Bool, true, false, cond, _&&_}
+use mathlib.Core.Path.{_≡_, refl, ap, _∙_}
 use mathlib.Core.List.{List, [], _∷_}
 use Prim.Native.Nat.{ℕ, _≤_}
 use native.Mathlib.Omega.{arith}
-use lib.Dec.{eqb}
 use borrow.Author.Tests.{ne-eqb}
 use Rattle.sheet.specs.declared.Sheet.{Sheet}
-use Rattle.ledger.specs.Ledger.{Call, take, release, move, settle, restate, void, Kept, none, kept, Ledger, Reply, Outcome, given, conditionsOf, startOf, effectOf, step, run}
+use Rattle.ledger.specs.Ledger.{Call, take, release, move, settle, restate, void, Kept, Ledger, Reply, Outcome, conditionsOf, startOf, effectOf, step, run}
 use Rattle.ledger.specs.Reckoned.{recordAfter, lastFrom}
 use Rattle.ledger.proofs.Told.{Told, refuses, accepts, step-told}
 

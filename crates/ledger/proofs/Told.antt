@@ -1,20 +1,17 @@
 -- The first condition that holds decides: either a call is refused by it and the ledger stays, or none holds and the call has its effect.
 -- Assumes nothing.
-use mathlib.Core.Path.{_≡_, refl, ap, sym, _∙_}
-use mathlib.Core.Bool.{Bool, true, false, cond, not, _&&_, _||_}
+use mathlib.Core.Path.{_≡_, refl}
+use mathlib.Core.Bool.{Bool, true, false, cond, not, _&&_}
 use mathlib.Core.List.{List, [], _∷_, _++_}
-use Prim.Native.Nat.{ℕ, zero, suc, _+_, _≤_, _<_}
-use native.Mathlib.Omega.{arith}
+use Prim.Native.Nat.{ℕ, _+_, _≤_}
 use lib.Dec.{leb}
 use borrow.Author.Tests.{leb-true}
 use Rattle.finite.proofs.Tests.{and-left, and-right}
-use Rattle.lines.specs.Refusals.{textNumber}
 use Rattle.lines.specs.declared.ReadAnswer.{ReadAnswer}
 use Rattle.lines.specs.declared.ReadAnswer.the-variants.{Read, Refused}
-use Rattle.lines.specs.declared.TextRefusal.{TextRefusal}
 use Rattle.record.proofs.Laws.{refused-number}
 use Rattle.sheet.specs.declared.Sheet.{Sheet}
-use Rattle.ledger.specs.Ledger.{Call, take, release, move, settle, restate, void, Ledger, Reply, Outcome, Condition, when, firstOf, always, textCondition, takeConditions, releaseConditions, moveConditions, recordConditions, voidConditions, stands, given, conditionsOf, startOf, effectOf, step}
+use Rattle.ledger.specs.Ledger.{Call, take, release, move, settle, restate, void, Ledger, Outcome, Condition, when, firstOf, always, textCondition, takeConditions, releaseConditions, moveConditions, recordConditions, voidConditions, stands, given, conditionsOf, startOf, effectOf, step}
 use Rattle.ledger.specs.Reckoned.{accepted}
 
 -- every condition has a refusal's number

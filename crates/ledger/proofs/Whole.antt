@@ -1,34 +1,27 @@
 -- Demand 3 as a law about the definitions: the calls follow the ledger one by one, and what the ledger's calls and replies reckon up to holds
 -- of the book and the journal that agree with it.
 -- Assumes nothing.
-use mathlib.Core.Path.{_≡_, refl, ap, sym, _∙_, subst}
+use mathlib.Core.Path.{_≡_, refl, ap, sym, _∙_}
 use mathlib.Core.Bool.{Bool, true, false, cond, not, _&&_}
-use mathlib.Core.List.{List, [], _∷_, _++_}
-use Prim.Native.Nat.{ℕ, zero, suc, _+_, _-_, _*_, _≤_, _<_}
+use mathlib.Core.List.{List, [], _∷_}
+use Prim.Native.Nat.{ℕ, zero, suc, _+_, _-_, _≤_, _<_}
 use native.Mathlib.Nat.{not-suc-le-zero}
 use native.Mathlib.Omega.{arith}
 use borrow.Author.Tests.{ne-eqb}
-use lib.Dec.{eqb}
-use lib.IntN.{ℤ, pos}
 use lib.ListN.{length, getD, take, drop}
-use lib.Seq.{paste, paste-zero, drop-paste, drop-drop, ext-getD}
-use Rattle.finite.specs.Finite.{tabulate}
-use Rattle.finite.proofs.Tables.{length-tabulate, getD-tabulate}
+use lib.Seq.{drop-drop}
 use Rattle.energy.specs.declared.HubKwh.{HubKwh}
 use Rattle.energy.specs.declared.HubGrains.{HubGrains}
 use Rattle.sheet.specs.declared.Sheet.{Sheet}
-use Rattle.state.specs.Book.{Sized, noGrains}
 use Rattle.state.proofs.Empty.{empty-sized, empty-commitment, empty-mark, empty-energy, empty-amount}
 use Rattle.postings.specs.declared.Posting.{Posting}
-use Rattle.postings.specs.Journal.{postedHold}
 use Rattle.ledger.specs.Ledger.{Call, Ledger, Reply, Outcome, Condition, emptyLedger, firstOf, conditionsOf, startOf, effectOf, step, run}
-use Rattle.ledger.specs.Reckoned.{accepted, sumZ}
-use Rattle.ledger.specs.Calls.{State, carriedOut, requestOf, ranFrom, begun, decided}
+use Rattle.ledger.specs.Reckoned.{accepted}
+use Rattle.ledger.specs.Calls.{State, carriedOut, requestOf, ranFrom, begun}
 use Rattle.ledger.specs.Agrees.{Agrees}
 use Rattle.ledger.specs.Demand.{noneHolds, replyAt, Demand}
 use Rattle.ledger.proofs.Told.{Numbered, none, more, numbered, effect-accepted}
-use Rattle.ledger.proofs.Ready.{Ready, run-ready, step-ready}
-use Rattle.ledger.proofs.Follow.{Follows}
+use Rattle.ledger.proofs.Ready.{Ready, step-ready}
 use Rattle.ledger.proofs.Simulate.{follow}
 
 pub record Followed (sheet : Sheet) (room : ℕ) (calls : List Call) (st : State) (l : Ledger) : Type 0 where

@@ -1,7 +1,6 @@
 -- 01, Book and journal: "Book and journal equal the ledger when commitments, energies and amounts agree, exactly the hours with a record are
 -- marked settled, and the postings up to the count are the ledger's in order."
 use mathlib.Core.Path.{_≡_}
-use mathlib.Core.List.{List}
 use Prim.Native.Nat.{ℕ, _+_, _≤_, _<_}
 use lib.ListN.{length, take}
 use Rattle.sheet.specs.declared.Sheet.{Sheet}

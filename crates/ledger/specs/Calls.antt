@@ -3,11 +3,10 @@
 use Prim.Native.Nat.{ℕ, _+_, _-_, _*_, min}
 use mathlib.Core.Bool.{Bool, true, false, cond, not, _&&_, _||_}
 use mathlib.Core.List.{List, [], _∷_, _++_}
-use lib.Dec.{ltb, leb, eqb}
+use lib.Dec.{ltb, eqb}
 use lib.ListN.{length, take as firstOf}
 use lib.Seq.{paste}
 use Rattle.energy.specs.declared.GrossKwh.{GrossKwh}
-use Rattle.energy.specs.declared.HubKwh.{HubKwh}
 use Rattle.units.specs.Units.{isMember, unitCount}
 use Rattle.lines.specs.declared.ReadAnswer.{ReadAnswer}
 use Rattle.lines.specs.declared.ReadAnswer.the-variants.{Read as placeRead, Refused as textRefused}

@@ -20,7 +20,6 @@ use Rattle.record.specs.declared.RecordRead.{RecordRead}
 use Rattle.record.specs.Hour.{readRecord}
 use Rattle.record.specs.Spans.{minutesHold}
 use Rattle.allocation.specs.Fill.{grainsAt}
-use Rattle.settlement.specs.declared.Amounts.{Amounts}
 use Rattle.settlement.specs.declared.HourResult.{HourResult}
 use Rattle.settlement.specs.Hour.{hourResult}
 use Rattle.settlement.specs.Refusals.{readingsHold, proportionsHold}

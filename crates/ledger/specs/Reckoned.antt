@@ -6,7 +6,6 @@ use mathlib.Core.List.{List, [], _∷_}
 use lib.Dec.{eqb}
 use lib.IntN.{ℤ, pos, _+ℤ_}
 use Rattle.sheet.specs.declared.Sheet.{Sheet}
-use Rattle.record.specs.declared.RecordRead.{RecordRead}
 use Rattle.postings.specs.declared.Posting.{Posting}
 use Rattle.postings.specs.Journal.{isOf}
 use Rattle.ledger.specs.Ledger.{Call, take, release, move, settle, restate, void, Kept, none, kept, Reply, given}

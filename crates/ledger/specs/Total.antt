@@ -1,7 +1,6 @@
 -- 01, Book and journal: "A total call adds the postings of a unit and item."
 use Prim.Native.Nat.{ℕ}
 use mathlib.Core.Bool.{Bool, cond, _&&_}
-use mathlib.Core.List.{List}
 use lib.Dec.{leb}
 use lib.IntN.{ℤ, pos}
 use lib.ListN.{length, take}
@@ -9,7 +8,6 @@ use Rattle.units.specs.Units.{isMember}
 use Rattle.sheet.specs.declared.Sheet.{Sheet}
 use Rattle.sheet.specs.Ranges.{sheetHolds}
 use Rattle.state.specs.declared.Book.{Book}
-use Rattle.postings.specs.declared.Posting.{Posting}
 use Rattle.postings.specs.Journal.{postedHold, totalOf}
 use Rattle.ledger.specs.declared.Refusal.{Refusal}
 use Rattle.ledger.specs.declared.Refusal.the-variants.{SheetRange, BookRange, UnitUnknown}

@@ -1,6 +1,5 @@
 -- The number of a line that keeps to a row of one number lies in the row's range.
 -- Assumes nothing.
-use mathlib.Core.Path.{_≡_}
 use mathlib.Core.List.{List}
 use Prim.Native.Nat.{ℕ, _≤_, _<_}
 use native.Mathlib.Omega.{arith}

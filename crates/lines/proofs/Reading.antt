@@ -1,12 +1,12 @@
 -- One line at a place, by where its LF is found, and what reading any number of lines keeps: the place stays within the text, a refused
 -- reading stays as it is, and each line taken in keeps to the row that was due.
 -- Assumes nothing.
-use mathlib.Core.Path.{_≡_, refl, ap, sym, _∙_, subst}
+use mathlib.Core.Path.{_≡_, refl, ap, sym, _∙_}
 use mathlib.Core.Bool.{Bool, true, false, cond, _||_}
 use mathlib.Core.List.{List, [], _∷_, _++_}
-use Prim.Native.Nat.{ℕ, zero, suc, _+_, _-_, _≤_, _<_}
+use Prim.Native.Nat.{ℕ, _+_, _-_, _≤_, _<_}
 use native.Mathlib.Omega.{arith}
-use borrow.Author.Tests.{le-ltb, lt-ltb, ltb-true, ltb-false, eq-eqb, ne-eqb, eqb-true, eqb-false}
+use borrow.Author.Tests.{le-ltb, lt-ltb, ltb-false, eq-eqb, ne-eqb, eqb-true, eqb-false}
 use lib.Dec.{eqb, ltb}
 use lib.ListN.{length, drop, take, length-drop}
 use Rattle.text.proofs.Codes.{code-of, value-code}
@@ -17,7 +17,7 @@ use Rattle.text.specs.Text.{seek, before, has, valuePart, keyIs}
 use Rattle.text.specs.Rows.{noLine, valueOf}
 use Rattle.text.specs.declared.Row.{Row}
 use Rattle.text.specs.declared.Line.{Line}
-use Rattle.lines.specs.Lines.{lineBy, lineAt, placeAfter, Reading, readLine, readBy}
+use Rattle.lines.specs.Lines.{lineBy, lineAt, placeAfter, Reading, readLine}
 
 -- the line at a place, whose LF is looked for from there and found at e
 module _ (text : List ℕ) (at : ℕ) (row : Row) (e : ℕ) (he : e ≡ at + seek 10 10 (drop at text)) where

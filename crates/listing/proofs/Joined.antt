@@ -1,7 +1,7 @@
 -- The parts written one after the other: one more part behind the first i. Assumes nothing.
 use mathlib.Core.Path.{_≡_, sym, ap, _∙_}
-use mathlib.Core.List.{List, [], _++_}
-use Prim.Native.Nat.{ℕ, zero, suc, _+_}
+use mathlib.Core.List.{List}
+use Prim.Native.Nat.{ℕ, _+_}
 use native.Mathlib.Numerals.{add-one}
 use Rattle.decimal.specs.Output.{Output, written}
 use Rattle.decimal.proofs.Laws.{then, written-none}

@@ -13,7 +13,7 @@ use Rattle.units.specs.Units.{memberAt, members}
 use Rattle.units.proofs.Laws.{members-zero, members-in, members-out, members-le}
 use Rattle.settlement.specs.declared.Amounts.{Amounts}
 use Rattle.state.specs.Sizes.{places, items}
-use Rattle.state.specs.Book.{pastAmounts, itemOf}
+use Rattle.state.specs.Book.{pastAmounts}
 use Rattle.postings.specs.declared.Posting.{Posting}
 use Rattle.postings.specs.Journal.{noPosting}
 use Rattle.postings.specs.Plan.{postingOf, unitPostings, postingsTo, planRows, padded}

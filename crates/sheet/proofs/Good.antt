@@ -1,29 +1,26 @@
 -- A sheet that was read passes refusal 9: each of its values stands in a line that keeps to its row.
 -- Assumes nothing.
-use mathlib.Core.Path.{_≡_, refl, ap, sym, _∙_, subst}
-use mathlib.Core.Bool.{Bool, true, false, cond}
+use mathlib.Core.Path.{_≡_, refl, subst}
+use mathlib.Core.Bool.{true}
 use mathlib.Core.List.{List}
-use Prim.Native.Nat.{ℕ, _+_, _*_, _≤_, _<_}
+use Prim.Native.Nat.{ℕ, _+_, _≤_, _<_}
 use native.Mathlib.Omega.{arith}
-use lib.Dec.{eqb}
 use lib.Count.{ones}
-use lib.ListN.{length, getD, drop, length-drop}
-use borrow.Author.Tests.{eqb-true, eqb-false, ltb-false}
+use lib.ListN.{getD}
 use Rattle.finite.proofs.Tables.{getD-tabulate}
 use Rattle.units.specs.Units.{memberAt, members}
 use Rattle.units.proofs.Laws.{members-has, count-members}
-use Rattle.offer.specs.Offer.{offerHolds, pastOffer}
+use Rattle.offer.specs.Offer.{pastOffer}
 use Rattle.text.specs.Rows.{word, numberRow}
 use Rattle.text.specs.declared.Row.{Row}
 use Rattle.text.specs.declared.Line.{Line}
-use Rattle.lines.specs.Lines.{Reading, lineOf, numberOf}
+use Rattle.lines.specs.Lines.{lineOf, numberOf}
 use Rattle.lines.proofs.Reading.{Keeps}
 use Rattle.lines.proofs.Numbers.{number-in}
-use Rattle.sheet.specs.declared.UnitSheet.{UnitSheet}
 use Rattle.sheet.specs.Limits.{lastMonth, lastDay, mostLoss, mostOwn, mostCeiling, mostBar, mostCpf, mostUnits, mostKwh}
-use Rattle.sheet.specs.Rows.{headRows, unitRows, endRow, offerRow, unitsRead, readLines}
-use Rattle.sheet.specs.Day.{blockLine, offerBy, unitBy, placeBy, noUnit, sheetBy}
-use Rattle.sheet.specs.Ranges.{unitAt, offerAt, pastUnit}
+use Rattle.sheet.specs.Rows.{headRows, unitRows, endRow, offerRow, unitsRead}
+use Rattle.sheet.specs.Day.{blockLine, offerBy, unitBy, placeBy, sheetBy}
+use Rattle.sheet.specs.Ranges.{pastUnit}
 use Rattle.sheet.proofs.Table.{cpf-row, offer-at}
 use Rattle.sheet.proofs.Facts.{Whole}
 use Rattle.sheet.proofs.Offers.{offer-read}

@@ -1,22 +1,19 @@
 -- What the crates above use of the reader: a sheet that was read passes refusal 9, and its place is past the start and within the text.
 -- Assumes nothing.
-use mathlib.Core.Path.{_≡_, refl, ap, sym, _∙_, subst}
+use mathlib.Core.Path.{_≡_, refl, ap, sym, _∙_}
 use mathlib.Core.Bool.{Bool, true, false, cond}
 use mathlib.Core.List.{List}
-use Prim.Native.Nat.{ℕ, _+_, _*_, _≤_, _<_}
+use Prim.Native.Nat.{ℕ, _+_, _≤_, _<_}
 use native.Mathlib.Omega.{arith}
 use borrow.Author.Tests.{eqb-true, eq-eqb}
 use lib.Dec.{eqb}
-use lib.Count.{ones}
 use lib.ListN.{length, drop, length-drop}
 use Rattle.lines.specs.declared.Cursor.{Cursor}
-use Rattle.lines.specs.declared.ReadAnswer.{ReadAnswer}
 use Rattle.lines.specs.declared.ReadAnswer.the-variants.{Read, Refused}
 use Rattle.lines.specs.Lines.{Reading, lineOf, numberOf}
 use Rattle.lines.proofs.Reading.{start-within}
 use Rattle.lines.specs.Cells.{lineIn, Shows}
 use Rattle.lines.specs.Refusals.{textRefusal, badStart, answerOf}
-use Rattle.sheet.specs.declared.Sheet.{Sheet}
 use Rattle.sheet.specs.declared.SheetRead.{SheetRead}
 use Rattle.sheet.specs.Rows.{readLines}
 use Rattle.sheet.specs.Day.{sheetBy, sheetOf, noSheet, readSheet}

@@ -2,24 +2,16 @@
 -- Assumes nothing.
 use mathlib.Core.Path.{_≡_, refl, ap, sym, _∙_}
 use mathlib.Core.Bool.{Bool, true, false, cond}
-use mathlib.Core.List.{List}
-use Prim.Native.Nat.{ℕ, _+_, _*_, _≤_, _<_}
+use Prim.Native.Nat.{ℕ, _+_, _*_, _<_}
 use native.Mathlib.Omega.{arith}
 use lib.Count.{ones}
-use lib.ListN.{length, getD}
 use Rattle.finite.specs.Finite.{tabulate}
 use Rattle.finite.proofs.Tables.{tabulate-same}
 use Rattle.units.specs.Units.{memberAt, members}
 use Rattle.units.proofs.Laws.{members-has, members-le, count-members}
-use Rattle.offer.specs.declared.Offer.{Offer}
 use Rattle.text.specs.declared.Line.{Line}
-use Rattle.lines.specs.Lines.{lineOf, numberOf}
-use Rattle.lines.specs.Cells.{lineIn, Kept}
-use Rattle.sheet.specs.declared.UnitSheet.{UnitSheet}
-use Rattle.sheet.specs.declared.Sheet.{Sheet}
-use Rattle.sheet.specs.Rows.{unitsRead}
+use Rattle.lines.specs.Lines.{numberOf}
 use Rattle.sheet.specs.Day.{blockLine, offerBy, unitBy, placeBy, noUnit, sheetBy}
-use Rattle.sheet.proofs.Facts.{Whole}
 
 module _ (f g : ℕ → Line) where
   unit-same : (j : ℕ) → ((i : ℕ) → i < 27 → f (blockLine j + i) ≡ g (blockLine j + i)) → unitBy f j ≡ unitBy g j

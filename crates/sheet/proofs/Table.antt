@@ -1,12 +1,11 @@
 -- Rows of the sheet by their place: the lines that repeat are found by the places before them.
 -- Assumes nothing.
-use mathlib.Core.Path.{_≡_, ap, sym, _∙_}
-use mathlib.Core.List.{List, [], _∷_, _++_}
-use Prim.Native.Nat.{ℕ, suc, _+_, _*_, _-_, _%_, _≤_, _<_}
+use mathlib.Core.Path.{_≡_, ap, _∙_}
+use mathlib.Core.List.{[], _∷_}
+use Prim.Native.Nat.{ℕ, suc, _-_, _≤_, _<_}
 use native.Mathlib.Omega.{arith}
-use lib.ListN.{getD, replicate, List·getD-append, getD-replicate, length-replicate}
+use lib.ListN.{getD, replicate, List·getD-append, getD-replicate}
 use Rattle.text.specs.Rows.{word, numberRow}
-use Rattle.text.specs.declared.Row.{Row}
 use Rattle.sheet.specs.Limits.{mostCpf, mostUnits}
 use Rattle.sheet.specs.Rows.{headRows, unitRows, offerRow, endRow}
 

@@ -1,15 +1,15 @@
 -- The lines of a sheet, by the head and what follows it: where the head is refused, nothing follows.
 -- Assumes nothing.
 use mathlib.Core.Path.{_≡_, refl, ap, sym, _∙_, subst}
-use mathlib.Core.List.{List, []}
-use Prim.Native.Nat.{ℕ, _+_, _*_, _≤_, _<_}
+use mathlib.Core.List.{List}
+use Prim.Native.Nat.{ℕ, _+_, _*_, _≤_}
 use native.Mathlib.Nat.{not-suc-le-zero}
 use native.Mathlib.Omega.{arith}
 use lib.Count.{ones}
 use lib.ListN.{length}
 use Rattle.text.specs.declared.Line.{Line}
 use Rattle.lines.specs.declared.Cursor.{Cursor}
-use Rattle.lines.specs.Lines.{Reading, begin, readBy, numberOf}
+use Rattle.lines.specs.Lines.{begin, readBy, numberOf}
 use Rattle.lines.specs.Cells.{lineIn, Shows}
 use Rattle.lines.proofs.Due.{onward, by-refused}
 use Rattle.sheet.specs.Rows.{dueRow, unitsRead, readLines}

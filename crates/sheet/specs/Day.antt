@@ -1,7 +1,7 @@
 -- The day sheet that the lines make, and its reader (01, Energies and sheet).
 use Prim.Native.Nat.{ℕ, _+_, _*_, _/_}
 use mathlib.Core.Bool.{cond}
-use mathlib.Core.List.{List, []}
+use mathlib.Core.List.{List}
 use lib.Dec.{eqb}
 use lib.ListN.{drop, getD, replicate}
 use Rattle.finite.specs.Finite.{tabulate}

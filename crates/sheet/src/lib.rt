@@ -1,7 +1,6 @@
 // The day sheet: its type, its reader, and the test of its ranges and orders.
 ghost use mathlib.Core.Path.{_≡_};
-ghost use mathlib.Core.List.{List};
-ghost use Prim.Native.Nat.{ℕ, _+_, _^_, _≤_, _<_};
+ghost use Prim.Native.Nat.{_+_, _^_, _≤_, _<_};
 ghost use lib.ListN.{length, getD};
 ghost use lib.Count.{ones};
 ghost use Rattle.offer.specs.Offer.{offerHolds};

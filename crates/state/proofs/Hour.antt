@@ -3,7 +3,6 @@
 use Prim.Native.Nat.{ℕ, _+_, _<_}
 use mathlib.Core.Path.{_≡_, refl}
 use mathlib.Core.Bool.{true, false}
-use mathlib.Core.List.{List}
 use lib.ListN.{length, getD, set}
 use Rattle.units.specs.Units.{memberAt}
 use Rattle.settlement.specs.declared.HourResult.{HourResult}

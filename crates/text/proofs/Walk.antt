@@ -10,8 +10,7 @@ use borrow.Author.Tests.{le-ltb, lt-ltb, ne-eqb, eq-eqb, ltb-true, ltb-false, eq
 use lib.Dec.{ltb, eqb}
 use lib.ListN.{length, drop, getD, take, length-drop, drop-of-length-le}
 use lib.Seq.{drop-cons, take-all}
-use Rattle.text.specs.declared.Number.{Number}
-use Rattle.text.specs.declared.Number.the-variants.{Value, Malformed}
+use Rattle.text.specs.declared.Number.the-variants.{Malformed}
 use Rattle.text.specs.Text.{seek, has, wordIs, keyIs, digits}
 use Rattle.text.specs.Rows.{partBytes}
 

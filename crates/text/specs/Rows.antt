@@ -1,6 +1,6 @@
 -- A row says what one kind of line may be; a value is read by its row. 58 is ':', 44 is ','.
 use mathlib.Core.Path.{_≡_}
-use Prim.Native.Nat.{ℕ, zero, suc, _+_, _*_, _-_, _/_}
+use Prim.Native.Nat.{ℕ, zero, suc, _+_, _-_, _/_}
 use Prim.Native.String.{String}
 use mathlib.Core.Bool.{Bool, true, false, cond}
 use mathlib.Core.List.{List, [], _∷_, _++_}

@@ -1,6 +1,6 @@
 -- Bytes of a line, its key and value, and decimal numbers. 10 is LF, 61 is '=', 48 to 57 are the digits.
 use Prim.Native.Nat.{ℕ, suc, _+_, _*_, _-_}
-use mathlib.Core.Bool.{Bool, true, false, cond}
+use mathlib.Core.Bool.{Bool, false, cond}
 use mathlib.Core.List.{List, [], _∷_}
 use lib.Dec.{ltb, eqb}
 use lib.ListN.{length, take, drop, getD}

@@ -1,8 +1,6 @@
 -- By the answer.
 -- Assumes nothing.
-use Prim.Native.Nat.{ℕ}
-use mathlib.Core.Path.{_≡_, ap, sym, _∙_}
-use Rattle.ledger.specs.declared.Answer.{Answer}
+use mathlib.Core.Path.{ap, sym, _∙_}
 use Rattle.account.specs.Day.{answeredBy, noneDue}
 use borrow.Author.Needs.{needs}
 use Rattle.account.proofs.due_after.Statement.{statement}

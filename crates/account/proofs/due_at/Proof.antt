@@ -1,8 +1,7 @@
 -- By what comes at the place.
 -- Assumes nothing.
 use Prim.Native.Nat.{ℕ, _-_}
-use mathlib.Core.Path.{_≡_, ap, sym, _∙_}
-use Rattle.account.specs.declared.Next.{Next}
+use mathlib.Core.Path.{ap, sym, _∙_}
 use Rattle.account.specs.declared.Due.{Due}
 use Rattle.account.specs.Day.{dueWith}
 use borrow.Author.Needs.{needs}

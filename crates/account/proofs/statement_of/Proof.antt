@@ -1,7 +1,7 @@
 -- By how the sheet was read. What is written from the start of the buffer on are its first bytes.
 -- Assumes nothing.
 use Prim.Native.Nat.{ℕ}
-use mathlib.Core.Path.{_≡_, ap, sym, _∙_}
+use mathlib.Core.Path.{ap, sym, _∙_}
 use native.Mathlib.Omega.{arith}
 use Rattle.lines.specs.declared.ReadAnswer.{ReadAnswer}
 use Rattle.sheet.specs.declared.SheetRead.{SheetRead}

@@ -2,7 +2,6 @@
 -- Assumes nothing.
 use Rattle.account.specs.Day.{takeRow}
 use mathlib.Core.Path.{refl}
-use borrow.Author.Needs.{needs}
 use Rattle.account.proofs.take_row.Statement.{statement}
 use Rattle.account.proofs.take_row.Tie as tie
 

@@ -4,7 +4,6 @@ use mathlib.Core.Path.{sym}
 use native.Mathlib.Omega.{arith}
 use borrow.Author.Tests.{not-true, not-false}
 use Rattle.book.specs.Hours.{appliedTo}
-use borrow.Author.Needs.{needs}
 use Rattle.book.proofs.applied.Statement.{statement}
 use Rattle.book.proofs.applied.Tie as tie
 

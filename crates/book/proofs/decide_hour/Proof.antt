@@ -4,7 +4,6 @@ use mathlib.Core.Path.{_∙_}
 use borrow.Author.Tests.{eq-eqb, ne-eqb}
 use Rattle.book.proofs.Room.{sound-void, sound-record}
 use Rattle.book.proofs.Ladders.{kind-settle, kind-restate, kind-void}
-use borrow.Author.Needs.{needs}
 use Rattle.book.proofs.decide_hour.Statement.{statement}
 use Rattle.book.proofs.decide_hour.Tie as tie
 

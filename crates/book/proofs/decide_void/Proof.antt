@@ -1,7 +1,7 @@
 -- Each return is one way through the rows of the call.
 -- Assumes nothing.
 use mathlib.Core.Path.{sym, _∙_}
-use borrow.Author.Tests.{not-true, eq-eqb, ne-eqb}
+use borrow.Author.Tests.{eq-eqb, ne-eqb}
 use Rattle.state.proofs.Kept.{none-within}
 use Rattle.book.proofs.Ladders.{void-10, void-41, void-42, void-done}
 use borrow.Author.Needs.{needs}

@@ -2,7 +2,6 @@
 -- Assumes nothing.
 use native.Mathlib.Omega.{arith}
 use borrow.Author.Tests.{eq-eqb, ne-eqb}
-use borrow.Author.Needs.{needs}
 use Rattle.book.proofs.held_then.Statement.{statement}
 use Rattle.book.proofs.held_then.Tie as tie
 

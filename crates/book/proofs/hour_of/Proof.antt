@@ -2,7 +2,6 @@
 -- Assumes nothing.
 use mathlib.Core.Path.{sym}
 use borrow.Author.Tests.{eq-eqb, ne-eqb}
-use borrow.Author.Needs.{needs}
 use Rattle.book.proofs.hour_of.Statement.{statement}
 use Rattle.book.proofs.hour_of.Tie as tie
 

@@ -4,7 +4,7 @@ use mathlib.Core.Path.{ap, _≡_}
 use Prim.Native.Nat.{ℕ, _-_, _*_, min}
 use native.Mathlib.Omega.{arith}
 use lib.Dec.{ltb}
-use lib.Count.{ones, ones-le}
+use lib.Count.{ones-le}
 use borrow.Author.Needs.{needs}
 use Rattle.book.proofs.short_of.Statement.{statement}
 use Rattle.book.proofs.short_of.Tie as tie

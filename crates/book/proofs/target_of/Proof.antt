@@ -1,7 +1,6 @@
 -- The test is the definition's.
 -- Assumes nothing.
 use borrow.Author.Tests.{eq-eqb, ne-eqb}
-use borrow.Author.Needs.{needs}
 use Rattle.book.proofs.target_of.Statement.{statement}
 use Rattle.book.proofs.target_of.Tie as tie
 

@@ -2,7 +2,6 @@
 -- Assumes nothing.
 use Rattle.daybook.specs.Turns.{firstTables}
 use Rattle.decimal.proofs.Laws.{written-none}
-use Rattle.decimal.specs.Output.{written}
 use borrow.Author.Tests.{eq-eqb, ne-eqb}
 use mathlib.Core.Path.{sym}
 use borrow.Author.Needs.{needs}

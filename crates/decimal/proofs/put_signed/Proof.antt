@@ -1,8 +1,7 @@
 -- By the number's sign: '-' and the digits of its size, or the digits alone.
 -- Assumes nothing.
 use Prim.Native.Nat.{ℕ}
-use mathlib.Core.Path.{_≡_, ap, sym, _∙_}
-use mathlib.Core.List.{_∷_}
+use mathlib.Core.Path.{ap, sym, _∙_}
 use lib.IntN.{natAbs}
 use mir.Facts.{toZ-ofZ}
 use Rattle.decimal.specs.Output.{Output, output, withByte, written}

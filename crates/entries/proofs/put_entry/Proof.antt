@@ -2,7 +2,7 @@
 -- Assumes nothing.
 use Rattle.entries.specs.Entries.{resultText, lineText, entryLine}
 use Rattle.decimal.proofs.Laws.{then, written-one}
-use Rattle.decimal.specs.Output.{output, written}
+use Rattle.decimal.specs.Output.{output}
 use mathlib.Core.List.{[], _∷_, _++_}
 use mathlib.Core.Path.{sym, _∙_}
 use borrow.Author.Needs.{needs}

@@ -3,7 +3,7 @@
 use Rattle.entries.specs.Entries.{field}
 use Rattle.decimal.proofs.Laws.{then, written-one}
 use Rattle.decimal.specs.Decimal.{digits}
-use Rattle.decimal.specs.Output.{output, written}
+use Rattle.decimal.specs.Output.{output}
 use mathlib.Core.List.{[], _∷_}
 use mathlib.Core.Path.{sym, _∙_}
 use borrow.Author.Needs.{needs}

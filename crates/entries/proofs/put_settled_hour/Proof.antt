@@ -3,7 +3,6 @@
 use borrow.Author.Tests.{eq-eqb, ne-eqb}
 use Rattle.entries.specs.Tables.{settledHour}
 use Rattle.decimal.proofs.Laws.{written-none}
-use Rattle.decimal.specs.Output.{written}
 use mathlib.Core.Path.{sym, _∙_}
 use borrow.Author.Needs.{needs}
 use Rattle.entries.proofs.put_settled_hour.Statement.{statement}

@@ -1,7 +1,7 @@
 -- The loop's invariant: the items passed are stored.
 -- Assumes nothing.
 use mathlib.Core.Path.{_≡_, refl, sym, ap, _∙_}
-use Prim.Native.Nat.{ℕ, suc, _≤_, _-_, _+_, _*_}
+use Prim.Native.Nat.{suc, _≤_, _-_, _+_, _*_}
 use lib.ListN.{length}
 use native.Mathlib.Omega.{arith}
 use Rattle.formulas.proofs.Amounts.{back}

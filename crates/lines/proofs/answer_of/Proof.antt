@@ -1,14 +1,11 @@
 -- The cursor says what the reading says; each return is a case of the answer.
 -- Assumes nothing.
-use Rattle.lines.specs.Lines.{Reading}
-use Rattle.lines.specs.Refusals.{answerOf, textRefusal}
-use Rattle.lines.specs.declared.ReadAnswer.{ReadAnswer}
+use Rattle.lines.specs.Refusals.{textRefusal}
 use Rattle.lines.specs.declared.ReadAnswer.the-variants.{Read, Refused}
 use Rattle.lines.specs.declared.TextRefusal.{TextRefusal}
 use Prim.Native.Nat.{ℕ, _+_}
-use mathlib.Core.Path.{_≡_, sym, ap, _∙_}
+use mathlib.Core.Path.{sym, ap, _∙_}
 use borrow.Author.Tests.{eq-eqb, ne-eqb}
-use lib.ListN.{length}
 use borrow.Author.Needs.{needs}
 use Rattle.lines.proofs.answer_of.Statement.{statement}
 use Rattle.lines.proofs.answer_of.Tie as tie

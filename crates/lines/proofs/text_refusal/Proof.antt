@@ -1,7 +1,6 @@
 -- Each return goes by the number that was tested.
 -- Assumes nothing.
 use borrow.Author.Tests.{eq-eqb, ne-eqb}
-use borrow.Author.Needs.{needs}
 use Rattle.lines.proofs.text_refusal.Statement.{statement}
 use Rattle.lines.proofs.text_refusal.Tie as tie
 

@@ -4,7 +4,7 @@ use native.Mathlib.Omega.{arith}
 use Rattle.decimal.proofs.Lengths.{place-byte, place-most, signed-most}
 use mathlib.Core.Path.{sym, ap, _∙_}
 use lib.IntN.{ℤ}
-use mathlib.Core.List.{[], _∷_, _++_}
+use mathlib.Core.List.{[], _∷_}
 use Rattle.decimal.specs.Output.{output, written}
 use Rattle.decimal.specs.Decimal.{signed}
 use Rattle.decimal.proofs.Laws.{then, written-one}

@@ -4,11 +4,10 @@ use Prim.Native.Nat.{_^_, _<_}
 use native.Mathlib.Omega.{arith}
 use Rattle.decimal.proofs.Lengths.{place-byte, place-most, digits-most}
 use mathlib.Core.Path.{sym, _∙_}
-use mathlib.Core.List.{[], _∷_, _++_}
+use mathlib.Core.List.{[], _∷_}
 use Rattle.decimal.specs.Output.{output}
 use Rattle.decimal.specs.Decimal.{digits}
 use Rattle.decimal.proofs.Laws.{then, written-one}
-use Rattle.listing.specs.Listing.{numberField}
 use borrow.Author.Needs.{needs}
 use Rattle.listing.proofs.put_number_field.Statement.{statement}
 use Rattle.listing.proofs.put_number_field.Tie as tie

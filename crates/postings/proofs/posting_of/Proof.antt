@@ -1,7 +1,6 @@
 -- The amounts are within their bound, so that their difference is a machine number.
 -- Assumes nothing.
 use mathlib.Core.Path.{_∙_}
-use native.Mathlib.Omega.{arith}
 use Prim.Native.Nat.{_+_}
 use Rattle.formulas.proofs.Amounts.{back}
 use Rattle.state.specs.Book.{itemOf}

@@ -6,10 +6,9 @@ use mathlib.Core.Logic.{⊎-elim}
 use Prim.Native.Nat.{ℕ, _+_, _-_, _≤_, _<_, min}
 use native.Mathlib.Omega.{arith}
 use lib.ListN.{getD, set}
-use Rattle.record.specs.Spans.{countedKind, spanAt}
+use Rattle.record.specs.Spans.{spanAt}
 use Rattle.record.proofs.Counted.{counted-in as kind-in}
 use Rattle.formulas.specs.Items.{firstKind, kinds}
-use Rattle.settlement.specs.Deviation.{shortMinutes}
 use Rattle.settlement.proofs.Weights.{short-most, part-most, Counted, counted-none, counted-in, counted-out, counted-all}
 use borrow.Author.Needs.{needs}
 use Rattle.settlement.proofs.proportions.Statement.{statement}

@@ -3,7 +3,6 @@
 use mathlib.Core.Path.{_≡_, _∙_, ap}
 use native.Mathlib.Omega.{arith}
 use Rattle.finite.specs.Finite.{tabulate}
-use Rattle.allocation.specs.declared.Plant.{Plant}
 use Rattle.allocation.specs.Allocation.{energies}
 use Rattle.formulas.proofs.Laws.{drawn-most}
 use Rattle.settlement.specs.Ranges.{placeAmounts, plantBy, hourBy}

@@ -1,9 +1,9 @@
 -- The array is filled from the front, an hour a turn.
 -- Assumes nothing.
-use Prim.Native.Nat.{ℕ, _+_, _*_, _-_, _≤_}
+use Prim.Native.Nat.{ℕ, _+_, _-_, _≤_}
 use mathlib.Core.Path.{_≡_, refl, ap, sym, _∙_}
 use native.Mathlib.Omega.{arith}
-use lib.ListN.{length, take, getD, length-set}
+use lib.ListN.{length, take, length-set}
 use Rattle.finite.specs.Finite.{tabulate}
 use Rattle.finite.proofs.Tables.{filled-next, filled}
 use Rattle.lines.specs.Cells.{lineIn}

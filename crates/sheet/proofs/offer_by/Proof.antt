@@ -8,7 +8,6 @@ use Rattle.finite.specs.Finite.{tabulate}
 use Rattle.finite.proofs.Tables.{filled-next, filled}
 use Rattle.lines.specs.Cells.{lineIn}
 use Rattle.energy.specs.declared.HubKwh.{HubKwh}
-use Rattle.offer.specs.declared.Offer.{Offer}
 use Rattle.sheet.specs.Day.{offerBy}
 use borrow.Author.Needs.{needs}
 use Rattle.sheet.proofs.offer_by.Statement.{statement}

@@ -1,8 +1,7 @@
 -- After i turns the cursor and the cells show i lines more; the row of the next is the one due.
 -- Assumes nothing.
 use Prim.Native.Nat.{ℕ, _+_, _-_, _≤_}
-use mathlib.Core.Path.{_≡_, refl, ap, sym, _∙_, subst}
-use mathlib.Core.List.{List}
+use mathlib.Core.Path.{_≡_, refl, ap, _∙_, subst}
 use native.Mathlib.Omega.{arith}
 use lib.ListN.{length}
 use lib.Count.{ones}

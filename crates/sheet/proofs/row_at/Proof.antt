@@ -1,6 +1,5 @@
 -- The three returns are the three cases of the definition.
 -- Assumes nothing.
-use mathlib.Core.Path.{sym, _∙_}
 use borrow.Author.Tests.{lt-ltb, le-ltb}
 use Rattle.sheet.specs.Rows.{rowAt}
 use borrow.Author.Needs.{needs}

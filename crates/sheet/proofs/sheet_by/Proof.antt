@@ -1,14 +1,12 @@
 -- The units are filled from the front, a place a turn; each other field is its line.
 -- Assumes nothing.
-use Prim.Native.Nat.{ℕ, _+_, _*_, _-_, _≤_}
+use Prim.Native.Nat.{ℕ, _-_, _≤_}
 use mathlib.Core.Path.{_≡_, refl, ap, sym, _∙_}
 use native.Mathlib.Omega.{arith}
-use lib.ListN.{length, take, getD, length-set}
+use lib.ListN.{length, take, length-set}
 use Rattle.finite.specs.Finite.{tabulate}
 use Rattle.finite.proofs.Tables.{filled-next, filled}
 use Rattle.lines.specs.Cells.{lineIn}
-use mathlib.Core.List.{List}
-use Rattle.sheet.specs.declared.UnitSheet.{UnitSheet}
 use Rattle.sheet.specs.Day.{placeBy, sheetBy}
 use borrow.Author.Needs.{needs}
 use Rattle.sheet.proofs.sheet_by.Statement.{statement}

@@ -1,16 +1,13 @@
 -- The offers are filled from the front, an hour a turn.
 -- Assumes nothing.
-use Prim.Native.Nat.{ℕ, _+_, _*_, _-_, _≤_}
+use Prim.Native.Nat.{ℕ, _+_, _-_, _≤_}
 use mathlib.Core.Path.{_≡_, refl, ap, sym, _∙_}
 use native.Mathlib.Omega.{arith}
-use lib.ListN.{length, take, getD, length-set}
+use lib.ListN.{length, take, length-set}
 use Rattle.finite.specs.Finite.{tabulate}
 use Rattle.finite.proofs.Tables.{filled-next, filled}
 use Rattle.lines.specs.Cells.{lineIn}
-use mathlib.Core.List.{List}
-use Rattle.energy.specs.declared.GrossKwh.{GrossKwh}
 use Rattle.offer.specs.declared.Offer.{Offer}
-use Rattle.lines.specs.Lines.{numberOf}
 use Rattle.sheet.specs.Day.{offerBy, unitBy, blockLine}
 use borrow.Author.Needs.{needs}
 use Rattle.sheet.proofs.unit_by.Statement.{statement}

@@ -7,7 +7,7 @@ use Rattle.text.specs.Text.{seek, digits, numberIn}
 use Rattle.text.specs.Rows.{partBytes}
 use lib.ListN.{length, drop, getD, length-drop}
 use native.Mathlib.Omega.{arith}
-use Prim.Native.Nat.{ℕ, _≤_, _<_, _+_}
+use Prim.Native.Nat.{_≤_, _+_}
 use mathlib.Core.Path.{_≡_, sym, _∙_}
 use mathlib.Core.Logic.{⊎-elim}
 use borrow.Author.Needs.{needs}
