@@ -45,9 +45,10 @@ fn append(list: &mut [Posting], at: usize, plan: Plan, n: usize)
     requires { ⌜ (n ≤ 40) × (n ≤ length (now list) - at) ⌝ }
     ensures { λ _. ⌜ now (list .exit) ≡ posted (now (list .entry)) at plan n ⌝ }
 {
+    let rows = plan.row;
     let mut k: usize = 0;
     while k < n {
-        let x = postings::row_of(plan, k);
+        let x = rows[k];
         list[at + k] = x;
         k += 1;
     }
