@@ -4,16 +4,20 @@
 use mathlib.Core.Path.{_≡_, refl, ap, ap₂, sym, _∙_, subst}
 use mathlib.Core.Bool.{Bool, true, false}
 use mathlib.Core.List.{List}
-use Prim.Native.Nat.{ℕ, _+_, _*_, _/_, _%_, _≤_, _<_}
+use Prim.Native.Nat.{ℕ, suc, _+_, _-_, _*_, _/_, _%_, _≤_, _<_}
+use native.Mathlib.Numerals.{add-one}
 use native.Mathlib.Omega.{arith}
 use borrow.Author.Tests.{eqb-true, eqb-false}
 use lib.Dec.{eqb}
-use lib.ListN.{length, getD, set}
+use lib.ListN.{length, getD, set, take, length-set}
 use lib.Seq.{getD-set-same, getD-set-other}
+use Rattle.finite.specs.Finite.{tabulate}
+use Rattle.finite.proofs.Tables.{tabulate-same, filled-next, filled}
 use Rattle.offer.specs.declared.Offer.{Offer}
 use Rattle.offer.specs.Offer.{pastOffer}
 use Rattle.sheet.specs.declared.Sheet.{Sheet}
 use Rattle.sheet.specs.Ranges.{unitAt, offerAt}
+use Rattle.settlement.specs.Hour.{hourSheetWith, hourOffers, hourSheet}
 use Rattle.settlement.specs.Ranges.{Listed}
 
 module _ (sheet : Sheet) (k : ℕ) where
@@ -61,3 +65,29 @@ listed-at sheet l s h k lh lk =
     let unit : (8 * h + k) % 8 ≡ k = omega arith in
     let hour : (8 * h + k) / 8 ≡ h = omega arith in
     s .entry (8 * h + k) (omega arith) (omega arith) ∙ ap₂ (λ (m n : ℕ). offerAt (unitAt (sheet .unit) m) n) unit hour
+
+-- the offers of hour h at its first k places
+pub record HourListed (l : List Offer) (h k : ℕ) (offer : List Offer) : Type 0 where
+  pub long : length offer ≡ 8
+  pub offer-is : take k offer ≡ tabulate k (λ (j : ℕ). getD l (8 * h + j) pastOffer)
+
+pub hour-none : (l : List Offer) (h : ℕ) (offer : List Offer) → length offer ≡ 8 → HourListed l h 0 offer
+unfolding tabulate
+hour-none l h offer e = record { long = e; offer-is = refl }
+
+pub hour-next : (l : List Offer) (h k : ℕ) (offer : List Offer) → k < 8 → HourListed l h k offer → HourListed l h (k + 1) (set offer k (getD l (8 * h + k) pastOffer))
+hour-next l h k offer lk t =
+    record {
+      long = length-set offer k _ ∙ t .long;
+      offer-is = filled-next (λ (j : ℕ). getD l (8 * h + j) pastOffer) offer k _ (omega (arith, t .long)) (t .offer-is) refl;
+    }
+
+pub hour-all : (sheet : Sheet) (l : List Offer) → Listed sheet 8 l → (h : ℕ) (offer : List Offer) → h < 24 → HourListed l h 8 offer → hourSheetWith sheet (h + 1) offer ≡ hourSheet sheet (suc h)
+unfolding hourSheet
+hour-all sheet l s h offer lh t =
+    let f : ℕ → Offer = λ j. getD l (8 * h + j) pastOffer in
+    let is =
+    filled f offer 8 (omega (arith, t .long)) (t .offer-is)
+    ∙ tabulate-same 8 f (λ (j : ℕ). offerAt (unitAt (sheet .unit) j) h) (λ j lj. listed-at sheet l s h j lh lj) in
+    let back : h ≡ suc h - 1 = omega arith in
+    ap₂ (λ (n : ℕ) (o : List Offer). hourSheetWith sheet n o) (add-one h) is ∙ ap (λ (n : ℕ). hourSheetWith sheet (suc h) (hourOffers sheet n)) back

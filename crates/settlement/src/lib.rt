@@ -177,7 +177,7 @@ fn unit_amounts(
     }
 }
 
-fn no_amounts() -> Amounts
+pub fn no_amounts() -> Amounts
     ensures { λ r. ⌜ r ≡ noAmounts ⌝ }
 {
     Amounts {
