@@ -4,11 +4,11 @@
 use mathlib.Core.Path.{_≡_, refl, ap, sym, _∙_}
 use mathlib.Core.Bool.{Bool, true, false, cond, _||_}
 use mathlib.Core.List.{List, [], _∷_, _++_}
-use Prim.Native.Nat.{ℕ, _+_, _-_, _≤_, _<_}
+use Prim.Native.Nat.{ℕ, _+_, _≤_, _<_}
 use native.Mathlib.Omega.{arith}
 use borrow.Author.Tests.{le-ltb, lt-ltb, ltb-false, eq-eqb, ne-eqb, eqb-true, eqb-false}
 use lib.Dec.{eqb, ltb}
-use lib.ListN.{length, drop, take, length-drop}
+use lib.ListN.{length, drop, length-drop}
 use Rattle.text.proofs.Codes.{code-of, value-code}
 use Rattle.text.proofs.Fits.{Fits, value-fits}
 use Rattle.lines.specs.Refusals.{textNumber, textRefusal, badStart}
@@ -27,12 +27,28 @@ module _ (text : List ℕ) (at : ℕ) (row : Row) (e : ℕ) (he : e ≡ at + see
       let n : length (drop at text) ≤ seek 10 10 (drop at text) = omega (arith, length-drop at text) in
       simp (le-ltb _ _ n)
 
-  pub ended-line : e < length text → lineBy (take (e - at) (drop at text)) row ≡ lineAt text at row
+  pub ended-line : e < length text → lineBy (before 10 (drop at text)) row ≡ lineAt text at row
   unfolding lineAt
   ended-line h =
       let short : seek 10 10 (drop at text) < length (drop at text) = omega (arith, length-drop at text) in
-      let n : e - at ≡ seek 10 10 (drop at text) = omega arith in
-      simp (lt-ltb _ _ short) (ap (λ (k : ℕ). lineBy (take k (drop at text)) row) n)
+      simp (lt-ltb _ _ short)
+
+-- the refusal of a line at a place that its row refuses
+pub refusal-is : (text : List ℕ) (at : ℕ) (row : Row) (code : ℕ) → code ≡ lineBy (before 10 (drop at text)) row .code
+    → cond (has 10 (drop at text)) code 4 ≡ lineAt text at row .code
+unfolding lineAt
+refusal-is text at row code e = by (has 10 (drop at text))
+  where
+    l : Line
+    l = lineBy (before 10 (drop at text)) row
+
+    by : (t : Bool) → cond t code 4 ≡ cond t l (noLine 4) .code
+    by true = e
+    by false = refl
+
+pub refusal-some : (t : Bool) (code : ℕ) → (code ≡ 0 → ⊥) → cond t code 4 ≡ 0 → ⊥
+refusal-some true code n z = n z
+refusal-some false code n z = omega arith
 
 -- the next line: nothing where the reading is refused; else the line is taken in, or the reading is refused
 module _ (text : List ℕ) (row : Row) (s : Reading) where

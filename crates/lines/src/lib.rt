@@ -2,7 +2,9 @@
 // 25 cells for each line: first how many numbers the line has, then its 24 numbers.
 ghost use mathlib.Core.Path.{_≡_};
 ghost use Prim.Native.Nat.{_+_, _^_, _≤_, _<_};
-ghost use lib.ListN.{length, getD, replicate};
+ghost use mathlib.Core.Bool.{cond};
+ghost use lib.ListN.{length, drop, getD, replicate};
+ghost use Rattle.text.specs.Text.{seek, before, has};
 ghost use Rattle.text.specs.Rows.{Held};
 ghost use Rattle.lines.specs.Lines.{Reading, lineBy, readLine};
 ghost use Rattle.lines.specs.Cells.{lineIn, Blank, Placed, Shows};
@@ -95,42 +97,56 @@ pub fn answer_of(start: usize, c: Cursor) -> ReadAnswer
     ReadAnswer::Refused(text_refusal(c.refusal, c.lines as u64 + 1))
 }
 
-// A line without its LF, by its row, its numbers stored in a list of 24 zeros.
-fn line_into(line: &[u8], row: Row, number: &mut [u64]) -> Head
+// The line that stands first in a text, up to its LF, by its row, its numbers stored in a list of 24 zeros.
+fn line_into(text: &[u8], row: Row, number: &mut [u64]) -> Head
     requires { ⌜ now number ≡ replicate 24 0 ⌝ }
-    ensures { λ r. ⌜ Held r (now (number .exit)) (lineBy (now (line .entry)) row) ⌝ }
+    ensures { λ r. ⌜ Held r (now (number .exit)) (seek 10 10 (now (text .entry))) (lineBy (before 10 (now (text .entry))) row) ⌝ }
 {
     let key = row.key;
-    if text::key_is(line, key) {
-        return text::value_into(text::value_of(line), row, number);
+    let from = text::key_end(text, key);
+    if from == 0 {
+        return Head {
+            code: 1,
+            count: 0,
+            end: 0,
+        };
     }
-    Head { code: 1, count: 0 }
+    let h = text::value_into(&text[from..], row, number);
+    if h.code != 0 {
+        return h;
+    }
+    Head {
+        code: 0,
+        count: h.count,
+        end: from + h.end,
+    }
 }
 
-// The code of a line whose numbers are kept nowhere.
-fn line_code(line: &[u8], row: Row) -> u64
-    ensures { λ r. ⌜ r ≡ lineBy (now (line .entry)) row .code ⌝ }
+// The head of a line whose numbers are kept nowhere.
+fn line_head(text: &[u8], row: Row) -> Head
+    ensures { λ r. ⌜ r .code ≡ lineBy (before 10 (now (text .entry))) row .code ⌝ }
+    ensures { λ r. ⌜ (r .code ≡ 0 → r .end ≡ seek 10 10 (now (text .entry))) ⌝ }
 {
     let mut number = [0u64; 24];
-    let h = line_into(line, row, &mut number);
-    h.code
+    line_into(text, row, &mut number)
 }
 
-// Line k without its LF, by its row, read into its own cells where there is room for them. The result is the line's code.
-fn line_kept(line: &[u8], row: Row, k: usize, cells: &mut [u64]) -> u64
+// Line k, which stands first in a text, by its row, read into its own cells where there is room for them.
+fn line_kept(text: &[u8], row: Row, k: usize, cells: &mut [u64]) -> Head
     requires { ⌜ k < 2 ^ 32 ⌝ }
     requires { ⌜ Blank (now cells) k ⌝ }
-    ensures { λ r. ⌜ Placed (now (cells .entry)) (now (cells .exit)) k r (lineBy (now (line .entry)) row) ⌝ }
+    ensures { λ r. ⌜ Placed (now (cells .entry)) (now (cells .exit)) k (r .code) (lineBy (before 10 (now (text .entry))) row) ⌝ }
+    ensures { λ r. ⌜ (r .code ≡ 0 → r .end ≡ seek 10 10 (now (text .entry))) ⌝ }
 {
     let at = 25 * k;
     let first = at + 1;
     let last = first + 24;
     if cells.len() < last {
-        return line_code(line, row);
+        return line_head(text, row);
     }
-    let h = line_into(line, row, &mut cells[first..last]);
+    let h = line_into(text, row, &mut cells[first..last]);
     cells[at] = h.count as u64;
-    h.code
+    h
 }
 
 // How many numbers line k has.
@@ -167,6 +183,17 @@ pub fn start() -> Cursor
     }
 }
 
+// The refusal of the line at a place that is refused by its row with a code: 4 where the text ends inside the line.
+fn refusal_at(text: &[u8], at: usize, code: u64) -> u64
+    ensures { λ r. ⌜ r ≡ cond (has 10 (drop at (now (text .entry)))) code 4 ⌝ }
+{
+    let e = text::find(text, at, b'\n', b'\n');
+    if text.len() <= e {
+        return 4;
+    }
+    code
+}
+
 // The line due, by its row; nothing where the text is refused already.
 pub fn read_line(text: &[u8], row: Row, c: Cursor, cells: &mut [u64]) -> Cursor
     requires { ⌜ c .lines < 2 ^ 32 ⌝ }
@@ -180,18 +207,25 @@ pub fn read_line(text: &[u8], row: Row, c: Cursor, cells: &mut [u64]) -> Cursor
     }
     let at = c.at;
     let k = c.lines;
-    let e = text::find(text, at, b'\n', b'\n');
-    if text.len() <= e {
+    if text.len() < at {
         return Cursor {
             refusal: 4,
             at: at,
             lines: k,
         };
     }
-    let code = line_kept(&text[at..e], row, k, cells);
-    if code != 0 {
+    let h = line_kept(&text[at..], row, k, cells);
+    if h.code != 0 {
         return Cursor {
-            refusal: code,
+            refusal: refusal_at(text, at, h.code),
+            at: at,
+            lines: k,
+        };
+    }
+    let e = at + h.end;
+    if text.len() <= e {
+        return Cursor {
+            refusal: 4,
             at: at,
             lines: k,
         };

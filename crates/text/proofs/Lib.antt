@@ -7,3 +7,4 @@ pub mod Heads
 pub mod Parts
 pub mod Pairs
 pub mod Ended
+pub mod Keys

@@ -1,9 +1,10 @@
 -- Where there is no room nothing is stored; else the numbers stand in the line's own cells, which were all 0.
 -- Assumes nothing.
-use mathlib.Core.Path.{refl, ap, _∙_}
+use mathlib.Core.Path.{refl, ap, sym, _∙_}
 use Prim.Native.Nat.{_+_, _*_, _≤_}
 use lib.ListN.{length}
 use native.Mathlib.Omega.{arith}
+use Rattle.text.specs.Text.{before}
 use Rattle.lines.specs.Lines.{lineBy}
 use Rattle.lines.proofs.Storage.{blank-part, placed}
 use borrow.Author.Needs.{needs}
@@ -19,17 +20,19 @@ add-first c = search needs
 add-last : tie.Need-add-last
 add-last c = search needs
 
-line-code-requires : tie.Need-line-code-requires
-line-code-requires c κs = search needs
+line-head-requires : tie.Need-line-head-requires
+line-head-requires c κs = search needs
 
 returns : tie.Need-returns
-returns c =
-    record {
-      code-is = c .line-code .ensures;
-      before = λ j h. refl;
-      behind = λ j h. refl;
-      line-is = λ z room. absurd (omega (arith, c .before .if1 .taken));
-    }
+returns c = (
+  record {
+    code-is = c .line-head .ensures .0;
+    before = λ j h. refl;
+    behind = λ j h. refl;
+    line-is = λ z room. absurd (omega (arith, c .before .if1 .taken));
+  },
+  c .line-head .ensures .1,
+)
 
 mul-line-into : tie.Need-mul-line-into
 mul-line-into c = search needs
@@ -61,7 +64,10 @@ returns-2 c =
     let i = c .before .before .line-into in
     let room : 25 * g .k + 25 ≤ length (g .cells .now) = omega (arith, c .before .before .before .before .if1 .left) in
     let blank = c .before .before .before .before .before .before .before .pre .1 in
-    placed (g .cells .now) (g .k) room (i .result) (i .last .1 .1 .0) (lineBy (g .line .now) (g .row)) (i .ensures) (i .kept .1 .1 .0 ∙ ap length (blank-part (g .cells .now) (g .k) room blank))
+    let held = i .ensures in (
+      placed (g .cells .now) (g .k) room (i .result) (i .last .1 .1 .0) _ (lineBy (before 10 (g .text .now)) (g .row)) held (i .kept .1 .1 .0 ∙ ap length (blank-part (g .cells .now) (g .k) room blank)),
+      λ z. held .end-is (sym (held .code-is) ∙ z),
+    )
 
 pub line-kept-spec : {M : Type 1} → statement M
 line-kept-spec =
@@ -70,7 +76,7 @@ line-kept-spec =
     mul-at
     add-first
     add-last
-    line-code-requires
+    line-head-requires
     returns
     mul-line-into
     sub-line-into
