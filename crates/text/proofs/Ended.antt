@@ -10,7 +10,7 @@ use native.Mathlib.Decide.{decLe}
 use lib.Dec.{eqb}
 use lib.ListN.{length, drop, getD, take, length-drop}
 use lib.Seq.{length-take-le, getD-take, take-all, take-add, drop-at}
-use Rattle.text.specs.Text.{seek, before}
+use Rattle.text.specs.Text.{seek, before, valuePart}
 use Rattle.text.proofs.Walk.{seek-le, seek-first, seek-on}
 
 -- a search may begin at any place before the first mark
@@ -61,7 +61,7 @@ seek-take s zero h = refl
 seek-take [] (suc n) h = absurd (let z : 1 ≤ 0 = omega arith in omega arith)
 seek-take (x ∷ xs) (suc n) h = take-step (eqb x 10) n (seek 10 10 xs) (seek 10 10 (take n xs)) (seek-take xs n) h
 
-pub line-part : (s : List ℕ) (n k : ℕ) → n ≤ seek 10 10 s → before 10 (drop k (take n s)) ≡ drop k (take n s)
+line-part : (s : List ℕ) (n k : ℕ) → n ≤ seek 10 10 s → before 10 (drop k (take n s)) ≡ drop k (take n s)
 line-part s n k h = take-all (seek 10 10 (drop k (take n s))) (drop k (take n s)) (by (decLe k n))
   where
     long : length (take n s) ≡ n
@@ -70,3 +70,8 @@ line-part s n k h = take-all (seek 10 10 (drop k (take n s))) (drop k (take n s)
     by : Dec (k ≤ n) → length (drop k (take n s)) ≤ seek 10 10 (drop k (take n s))
     by (yes l) = omega (arith, long, length-drop k (take n s), seek-drop 10 10 (take n s) k (omega (arith, seek-take s n h)), seek-take s n h)
     by (no l) = omega (arith, long, length-drop k (take n s))
+
+-- the value of the line at a place, whose LF is found at e
+pub line-value : (text : List ℕ) (at e : ℕ) → e ≡ at + seek 10 10 (drop at text)
+    → before 10 (valuePart (take (e - at) (drop at text))) ≡ valuePart (take (e - at) (drop at text))
+line-value text at e h = line-part (drop at text) (e - at) (suc (seek 61 61 (take (e - at) (drop at text)))) (omega arith)
