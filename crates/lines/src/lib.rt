@@ -3,10 +3,10 @@
 ghost use mathlib.Core.Path.{_≡_};
 ghost use Prim.Native.Nat.{_+_, _^_, _≤_, _<_};
 ghost use mathlib.Core.Bool.{cond};
-ghost use lib.ListN.{length, drop, getD, replicate};
+ghost use lib.ListN.{length, drop, getD};
 ghost use Rattle.text.specs.Text.{seek, before, has};
-ghost use Rattle.text.specs.Rows.{Held};
-ghost use Rattle.lines.specs.Lines.{Reading, lineBy, readLine};
+ghost use Rattle.text.specs.Rows.{valueOf};
+ghost use Rattle.lines.specs.Lines.{Reading, readLine};
 ghost use Rattle.lines.specs.Cells.{lineIn, Blank, Placed, Shows};
 ghost use Rattle.lines.specs.Refusals.{textNumber, textLine, textRefusal, badStart, answerOf};
 use text::Head;
@@ -97,54 +97,29 @@ pub fn answer_of(start: usize, c: Cursor) -> ReadAnswer
     ReadAnswer::Refused(text_refusal(c.refusal, c.lines as u64 + 1))
 }
 
-// The line that stands first in a text, up to its LF, by its row, its numbers stored in a list of 24 zeros.
-fn line_into(text: &[u8], row: Row, number: &mut [u64]) -> Head
-    requires { ⌜ now number ≡ replicate 24 0 ⌝ }
-    ensures { λ r. ⌜ Held r (now (number .exit)) (seek 10 10 (now (text .entry))) (lineBy (before 10 (now (text .entry))) row) ⌝ }
-{
-    let key = row.key;
-    let from = text::key_end(text, key);
-    if from == 0 {
-        return Head {
-            code: 1,
-            count: 0,
-            end: 0,
-        };
-    }
-    let h = text::value_into(&text[from..], row, number);
-    if h.code != 0 {
-        return h;
-    }
-    Head {
-        code: 0,
-        count: h.count,
-        end: from + h.end,
-    }
-}
-
-// The head of a line whose numbers are kept nowhere.
-fn line_head(text: &[u8], row: Row) -> Head
-    ensures { λ r. ⌜ r .code ≡ lineBy (before 10 (now (text .entry))) row .code ⌝ }
-    ensures { λ r. ⌜ (r .code ≡ 0 → r .end ≡ seek 10 10 (now (text .entry))) ⌝ }
+// The head of a value, up to its LF, whose numbers are kept nowhere.
+fn value_head(value: &[u8], row: Row) -> Head
+    ensures { λ r. ⌜ r .code ≡ valueOf row (before 10 (now (value .entry))) .code ⌝ }
+    ensures { λ r. ⌜ (r .code ≡ 0 → r .end ≡ seek 10 10 (now (value .entry))) ⌝ }
 {
     let mut number = [0u64; 24];
-    line_into(text, row, &mut number)
+    text::value_into(value, row, &mut number)
 }
 
-// Line k, which stands first in a text, by its row, read into its own cells where there is room for them.
-fn line_kept(text: &[u8], row: Row, k: usize, cells: &mut [u64]) -> Head
+// The value of line k, up to its LF, by its row, read into the line's own cells where there is room for them.
+fn value_kept(value: &[u8], row: Row, k: usize, cells: &mut [u64]) -> Head
     requires { ⌜ k < 2 ^ 32 ⌝ }
     requires { ⌜ Blank (now cells) k ⌝ }
-    ensures { λ r. ⌜ Placed (now (cells .entry)) (now (cells .exit)) k (r .code) (lineBy (before 10 (now (text .entry))) row) ⌝ }
-    ensures { λ r. ⌜ (r .code ≡ 0 → r .end ≡ seek 10 10 (now (text .entry))) ⌝ }
+    ensures { λ r. ⌜ Placed (now (cells .entry)) (now (cells .exit)) k (r .code) (valueOf row (before 10 (now (value .entry)))) ⌝ }
+    ensures { λ r. ⌜ (r .code ≡ 0 → r .end ≡ seek 10 10 (now (value .entry))) ⌝ }
 {
     let at = 25 * k;
     let first = at + 1;
     let last = first + 24;
     if cells.len() < last {
-        return line_head(text, row);
+        return value_head(value, row);
     }
-    let h = line_into(text, row, &mut cells[first..last]);
+    let h = text::value_into(value, row, &mut cells[first..last]);
     cells[at] = h.count as u64;
     h
 }
@@ -214,7 +189,17 @@ pub fn read_line(text: &[u8], row: Row, c: Cursor, cells: &mut [u64]) -> Cursor
             lines: k,
         };
     }
-    let h = line_kept(&text[at..], row, k, cells);
+    let key = row.key;
+    let from = text::key_end(&text[at..], key);
+    if from == 0 {
+        return Cursor {
+            refusal: refusal_at(text, at, 1),
+            at: at,
+            lines: k,
+        };
+    }
+    let begin = at + from;
+    let h = value_kept(&text[begin..], row, k, cells);
     if h.code != 0 {
         return Cursor {
             refusal: refusal_at(text, at, h.code),
@@ -222,7 +207,7 @@ pub fn read_line(text: &[u8], row: Row, c: Cursor, cells: &mut [u64]) -> Cursor
             lines: k,
         };
     }
-    let e = at + h.end;
+    let e = begin + h.end;
     if text.len() <= e {
         return Cursor {
             refusal: 4,

@@ -3,7 +3,7 @@
 use mathlib.Core.Path.{_≡_, refl, ap, sym, _∙_}
 use mathlib.Core.Bool.{Bool, true, false, cond}
 use mathlib.Core.List.{List}
-use Prim.Native.Nat.{ℕ, zero, suc, _+_, _/_}
+use Prim.Native.Nat.{ℕ, zero, suc, _/_}
 use native.Mathlib.Omega.{arith}
 use borrow.Author.Tests.{eq-eqb, ne-eqb}
 use lib.Dec.{ltb, eqb}
@@ -40,21 +40,6 @@ held-line h number place l held z =
     ap {B = Line} (λ (x : ℕ). record { code = x; count = h .count; number = number }) (sym good)
     ∙ (ap {B = Line} (λ (x : ℕ). record { code = l .code; count = x; number = number }) (held .count-is good)
     ∙ ap {B = Line} (λ (x : List ℕ). record { code = l .code; count = l .count; number = x }) (held .number-is good))
-
--- the same line in a text that begins before it
-module _ (h : Head) (number : List ℕ) (place later : ℕ) (l : Line) (held : Held h number place l) where
-  pub held-refused-later : (h .code ≡ 0 → ⊥) → Held h number later l
-  held-refused-later n =
-      record { code-is = held .code-is; count-is = held .count-is; number-is = held .number-is; end-is = λ z. absurd (n (held .code-is ∙ z)) }
-
-  pub held-later : (from : ℕ) → h .code ≡ 0 → from + place ≡ later → Held (record { code = 0; count = h .count; end = from + h .end }) number later l
-  held-later from z e =
-      record {
-        code-is = sym z ∙ held .code-is;
-        count-is = held .count-is;
-        number-is = held .number-is;
-        end-is = λ g. ap (λ (n : ℕ). from + n) (held .end-is g) ∙ e;
-      }
 
 -- a refused line holds nothing but its code
 pub Bare : Line → Type 0
