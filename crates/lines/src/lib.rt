@@ -169,6 +169,17 @@ fn refusal_at(text: &[u8], at: usize, code: u64) -> u64
     code
 }
 
+// The reading ends at the line due.
+fn refused(c: Cursor, refusal: u64) -> Cursor
+    ensures { λ r. ⌜ r ≡ record { refusal = refusal; at = c .at; lines = c .lines } ⌝ }
+{
+    Cursor {
+        refusal: refusal,
+        at: c.at,
+        lines: c.lines,
+    }
+}
+
 // The line due, by its row; nothing where the text is refused already.
 pub fn read_line(text: &[u8], row: Row, c: Cursor, cells: &mut [u64]) -> Cursor
     requires { ⌜ c .lines < 2 ^ 32 ⌝ }
@@ -183,37 +194,21 @@ pub fn read_line(text: &[u8], row: Row, c: Cursor, cells: &mut [u64]) -> Cursor
     let at = c.at;
     let k = c.lines;
     if text.len() < at {
-        return Cursor {
-            refusal: 4,
-            at: at,
-            lines: k,
-        };
+        return refused(c, 4);
     }
     let key = row.key;
     let from = text::key_end(&text[at..], key);
     if from == 0 {
-        return Cursor {
-            refusal: refusal_at(text, at, 1),
-            at: at,
-            lines: k,
-        };
+        return refused(c, refusal_at(text, at, 1));
     }
     let begin = at + from;
     let h = value_kept(&text[begin..], row, k, cells);
     if h.code != 0 {
-        return Cursor {
-            refusal: refusal_at(text, at, h.code),
-            at: at,
-            lines: k,
-        };
+        return refused(c, refusal_at(text, at, h.code));
     }
     let e = begin + h.end;
     if text.len() <= e {
-        return Cursor {
-            refusal: 4,
-            at: at,
-            lines: k,
-        };
+        return refused(c, 4);
     }
     Cursor {
         refusal: 0,

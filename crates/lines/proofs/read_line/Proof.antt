@@ -8,7 +8,7 @@ use lib.ListN.{length, drop, length-drop}
 use Rattle.text.proofs.Walk.{seek-le}
 use Rattle.text.specs.Text.{seek, before, has}
 use Rattle.text.specs.declared.Line.{Line}
-use Rattle.lines.specs.Lines.{lineBy, lineAt}
+use Rattle.lines.specs.Lines.{lineBy}
 use Rattle.lines.specs.Cells.{Placed}
 use Rattle.lines.proofs.Reading.{unended, ended-line, other-key, value-within, value-is, value-end, refusal-is, refusal-some}
 use Rattle.lines.proofs.Storage.{blank-next}
@@ -24,11 +24,15 @@ returns c =
       (omega arith, c .before .before .before .before .pre .1),
     )
 
+refused-requires : tie.Need-refused-requires
+refused-requires c κs = search needs
+
 returns-2 : tie.Need-returns-2
 returns-2 c =
-    let g = c .before .before .before .before .before .args in
-    let ends = unended (g .text .now) (g .c .at) (g .row) (g .c .at + seek 10 10 (drop (g .c .at) (g .text .now))) refl (omega (arith, c .if2 .taken)) in (
-      λ s shown. shown-bad (g .text .now) (g .row) (g .cells .now) (g .c) s shown (c .before .if1 .left) (g .cells .now) 4 (shown .kept) (ap (λ (l : Line). l .code) ends) (λ z. omega arith),
+    let g = c .before .before .before .before .before .before .args in
+    let ends = unended (g .text .now) (g .c .at) (g .row) (g .c .at + seek 10 10 (drop (g .c .at) (g .text .now))) refl (omega (arith, c .before .if2 .taken)) in
+    rw (c .refused .ensures) (
+      λ s shown. shown-bad (g .text .now) (g .row) (g .cells .now) (g .c) s shown (c .before .before .if1 .left) (g .cells .now) 4 (shown .kept) (ap (λ (l : Line). l .code) ends) (λ z. omega arith),
       (omega arith, λ z. omega arith),
     )
 
@@ -47,13 +51,17 @@ key-end-requires c κs = search needs
 refusal-at-requires : tie.Need-refusal-at-requires
 refusal-at-requires c κs = search needs
 
+refused-requires-2 : tie.Need-refused-requires-2
+refused-requires-2 c κs = search needs
+
 returns-3 : tie.Need-returns-3
 returns-3 c =
-    let g = c .before .before .before .before .before .before .before .before .before .before .args in
-    let one = other-key (g .text .now) (g .c .at) (g .row) (c .before .before .key-end .result) (c .before .before .key-end .ensures) (c .before .if3 .taken) in
-    let is = c .refusal-at .ensures ∙ refusal-is (g .text .now) (g .c .at) (g .row) 1 one in
-    let some : c .refusal-at .result ≡ 0 → ⊥ = λ z. refusal-some (has 10 (drop (g .c .at) (g .text .now))) 1 (λ q. omega arith) (sym (c .refusal-at .ensures) ∙ z) in (
-      λ s shown. shown-bad (g .text .now) (g .row) (g .cells .now) (g .c) s shown (c .before .before .before .before .before .before .if1 .left) (g .cells .now) (c .refusal-at .result) (shown .kept) is some,
+    let g = c .before .before .before .before .before .before .before .before .before .before .before .args in
+    let one = other-key (g .text .now) (g .c .at) (g .row) (c .before .before .before .key-end .result) (c .before .before .before .key-end .ensures) (c .before .before .if3 .taken) in
+    let is = c .before .refusal-at .ensures ∙ refusal-is (g .text .now) (g .c .at) (g .row) 1 one in
+    let some : c .before .refusal-at .result ≡ 0 → ⊥ = λ z. refusal-some (has 10 (drop (g .c .at) (g .text .now))) 1 (λ q. omega arith) (sym (c .before .refusal-at .ensures) ∙ z) in
+    rw (c .refused2 .ensures) (
+      λ s shown. shown-bad (g .text .now) (g .row) (g .cells .now) (g .c) s shown (c .before .before .before .before .before .before .before .if1 .left) (g .cells .now) (c .before .refusal-at .result) (shown .kept) is some,
       (omega arith, λ z. absurd (some z)),
     )
 
@@ -96,17 +104,21 @@ end-here c z =
 refusal-at-requires-2 : tie.Need-refusal-at-requires-2
 refusal-at-requires-2 c κs = search needs
 
+refused-requires-3 : tie.Need-refused-requires-3
+refused-requires-3 c κs = search needs
+
 same-length : tie.Need-same-length
 same-length c = search needs
 
 returns-4 : tie.Need-returns-4
 returns-4 c =
-    let g = c .before .before .before .before .before .before .before .before .before .before .before .before .before .before .before .before .before .args in
-    let r = c .before .before .before .before .before .value-kept in
-    let p = read (c .before .before .before .before .before) in
-    let is = c .refusal-at2 .ensures ∙ refusal-is (g .text .now) (g .c .at) (g .row) (r .result .code) (p .code-is) in
-    let some : c .refusal-at2 .result ≡ 0 → ⊥ = λ z. refusal-some (has 10 (drop (g .c .at) (g .text .now))) (r .result .code) (c .before .if4 .taken) (sym (c .refusal-at2 .ensures) ∙ z) in (
-      λ s shown. shown-placed-bad (g .text .now) (g .row) (g .cells .now) (g .c) s shown (c .before .before .before .before .before .before .before .before .before .before .before .before .before .if1 .left) (r .last .1 .1 .1 .0) (r .result .code) _ p (r .kept .1 .1 .1 .0) (c .refusal-at2 .result) is some,
+    let g = c .before .before .before .before .before .before .before .before .before .before .before .before .before .before .before .before .before .before .args in
+    let r = c .before .before .before .before .before .before .value-kept in
+    let p = read (c .before .before .before .before .before .before) in
+    let is = c .before .refusal-at2 .ensures ∙ refusal-is (g .text .now) (g .c .at) (g .row) (r .result .code) (p .code-is) in
+    let some : c .before .refusal-at2 .result ≡ 0 → ⊥ = λ z. refusal-some (has 10 (drop (g .c .at) (g .text .now))) (r .result .code) (c .before .before .if4 .taken) (sym (c .before .refusal-at2 .ensures) ∙ z) in
+    rw (c .refused3 .ensures) (
+      λ s shown. shown-placed-bad (g .text .now) (g .row) (g .cells .now) (g .c) s shown (c .before .before .before .before .before .before .before .before .before .before .before .before .before .before .if1 .left) (r .last .1 .1 .1 .0) (r .result .code) _ p (r .kept .1 .1 .1 .0) (c .before .refusal-at2 .result) is some,
       (omega arith, λ z. absurd (some z)),
     )
 
@@ -115,15 +127,19 @@ add-e c =
     let g = c .before .before .before .before .before .before .before .before .before .before .before .before .before .before .before .before .before .args in
     omega (arith, end-here (c .before .before .before .before .before) (c .before .if4 .left), seek-le 10 10 (drop (g .c .at) (g .text .now)), length-drop (g .c .at) (g .text .now), c .before .before .before .before .before .before .before .before .before .before .before .before .if2 .left)
 
+refused-requires-4 : tie.Need-refused-requires-4
+refused-requires-4 c κs = search needs
+
 same-length-2 : tie.Need-same-length-2
 same-length-2 c = search needs
 
 returns-5 : tie.Need-returns-5
 returns-5 c =
-    let g = c .before .before .before .before .before .before .before .before .before .before .before .before .before .before .before .before .before .before .args in
-    let r = c .before .before .before .before .before .before .value-kept in
-    let ends = unended (g .text .now) (g .c .at) (g .row) _ (end-here (c .before .before .before .before .before .before) (c .before .before .if4 .left)) (c .if5 .taken) in (
-      λ s shown. shown-placed-bad (g .text .now) (g .row) (g .cells .now) (g .c) s shown (c .before .before .before .before .before .before .before .before .before .before .before .before .before .before .if1 .left) (r .last .1 .1 .1 .0) (r .result .code) _ (read (c .before .before .before .before .before .before)) (r .kept .1 .1 .1 .0) 4 (ap (λ (l : Line). l .code) ends) (λ z. omega arith),
+    let g = c .before .before .before .before .before .before .before .before .before .before .before .before .before .before .before .before .before .before .before .args in
+    let r = c .before .before .before .before .before .before .before .value-kept in
+    let ends = unended (g .text .now) (g .c .at) (g .row) _ (end-here (c .before .before .before .before .before .before .before) (c .before .before .before .if4 .left)) (c .before .if5 .taken) in
+    rw (c .refused4 .ensures) (
+      λ s shown. shown-placed-bad (g .text .now) (g .row) (g .cells .now) (g .c) s shown (c .before .before .before .before .before .before .before .before .before .before .before .before .before .before .before .if1 .left) (r .last .1 .1 .1 .0) (r .result .code) _ (read (c .before .before .before .before .before .before .before)) (r .kept .1 .1 .1 .0) 4 (ap (λ (l : Line). l .code) ends) (λ z. omega arith),
       (omega arith, λ z. omega arith),
     )
 
@@ -153,12 +169,14 @@ read-line-spec =
     tie.close
     (tie.spec
     returns
+    refused-requires
     returns-2
     sub-key-end
     part-key-end-start
     part-key-end-end
     key-end-requires
     refusal-at-requires
+    refused-requires-2
     returns-3
     add-begin
     sub-value-kept
@@ -166,9 +184,11 @@ read-line-spec =
     part-value-kept-end
     value-kept-requires
     refusal-at-requires-2
+    refused-requires-3
     same-length
     returns-4
     add-e
+    refused-requires-4
     same-length-2
     returns-5
     add-t13

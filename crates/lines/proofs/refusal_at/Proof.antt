@@ -1,6 +1,5 @@
 -- The line has an LF where the search for it ends within the text.
 -- Assumes nothing.
-use mathlib.Core.Path.{sym}
 use native.Mathlib.Omega.{arith}
 use Prim.Native.Nat.{_≤_, _<_}
 use borrow.Author.Tests.{lt-ltb, le-ltb}
