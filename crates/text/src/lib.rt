@@ -326,6 +326,25 @@ fn element(number: &[u64], at: usize) -> u64
     0
 }
 
+// Bound p of a row, 0 past the last. The index is a literal in each case, so that the bounds are read where they stand.
+fn bound(bounds: [u64; 4], p: usize) -> u64
+    ensures { λ r. ⌜ r ≡ getD bounds p 0 ⌝ }
+{
+    if p == 0 {
+        return bounds[0];
+    }
+    if p == 1 {
+        return bounds[1];
+    }
+    if p == 2 {
+        return bounds[2];
+    }
+    if p == 3 {
+        return bounds[3];
+    }
+    0
+}
+
 fn mark_due(parts: usize, p: usize) -> u8
     requires { ⌜ p < 1000 ⌝ }
     ensures { λ r. ⌜ r ≡ markDue parts p ⌝ }
@@ -368,7 +387,7 @@ fn numbers(value: &[u8], row: Row, number: &mut [u64]) -> Head
     let mut from = 0;
     let mut p = 0;
     while 0 < left {
-        let part = part_at(value, from, element(&low, p), element(&high, p));
+        let part = part_at(value, from, bound(low, p), bound(high, p));
         let e = part.end;
         let read = part.number;
         let Number::Value(n) = read else {

@@ -142,7 +142,7 @@ all-offers-requires :
     μ-loop4
     Inv-loop
     μ-loop
-all-offers-requires c κs = search needs
+all-offers-requires c κs = tt
 
 limits-of-requires :
     tie.Need-limits-of-requires
@@ -154,7 +154,7 @@ limits-of-requires :
     μ-loop4
     Inv-loop
     μ-loop
-limits-of-requires c κs = search needs
+limits-of-requires c κs = tt
 
 no-posting-requires :
     tie.Need-no-posting-requires
@@ -166,7 +166,7 @@ no-posting-requires :
     μ-loop4
     Inv-loop
     μ-loop
-no-posting-requires c κs = search needs
+no-posting-requires c κs = tt
 
 loop-holds :
     tie.Need-loop-holds Inv-loop2 μ-loop2 Inv-loop3 μ-loop3 Inv-loop4 μ-loop4 Inv-loop μ-loop
@@ -178,7 +178,7 @@ loop-holds c =
 
 goes-on-requires :
     tie.Need-goes-on-requires Inv-loop2 μ-loop2 Inv-loop3 μ-loop3 Inv-loop4 μ-loop4 Inv-loop μ-loop
-goes-on-requires c κs = search needs
+goes-on-requires c κs = tt
 
 asked-at-requires :
     tie.Need-asked-at-requires
@@ -190,11 +190,11 @@ asked-at-requires :
     μ-loop4
     Inv-loop
     μ-loop
-asked-at-requires c κs = search needs
+asked-at-requires c κs = tt
 
 commits-requires :
     tie.Need-commits-requires Inv-loop2 μ-loop2 Inv-loop3 μ-loop3 Inv-loop4 μ-loop4 Inv-loop μ-loop
-commits-requires c κs = search needs
+commits-requires c κs = tt
 
 hour-place-requires :
     tie.Need-hour-place-requires
@@ -206,7 +206,7 @@ hour-place-requires :
     μ-loop4
     Inv-loop
     μ-loop
-hour-place-requires c κs = search needs
+hour-place-requires c κs = tt
 
 entry-place-requires :
     tie.Need-entry-place-requires
@@ -218,7 +218,7 @@ entry-place-requires :
     μ-loop4
     Inv-loop
     μ-loop
-entry-place-requires c κs = search needs
+entry-place-requires c κs = tt
 
 target-of-requires :
     tie.Need-target-of-requires
@@ -230,7 +230,7 @@ target-of-requires :
     μ-loop4
     Inv-loop
     μ-loop
-target-of-requires c κs = search needs
+target-of-requires c κs = tt
 
 entry-place-requires-2 :
     tie.Need-entry-place-requires-2
@@ -242,7 +242,7 @@ entry-place-requires-2 :
     μ-loop4
     Inv-loop
     μ-loop
-entry-place-requires-2 c κs = search needs
+entry-place-requires-2 c κs = tt
 
 mul-settled :
     tie.Need-mul-settled Inv-loop2 μ-loop2 Inv-loop3 μ-loop3 Inv-loop4 μ-loop4 Inv-loop μ-loop
@@ -350,7 +350,7 @@ element-set-from-then c = search needs
 
 reply-requires :
     tie.Need-reply-requires Inv-loop2 μ-loop2 Inv-loop3 μ-loop3 Inv-loop4 μ-loop4 Inv-loop μ-loop
-reply-requires c κs = search needs
+reply-requires c κs = tt
 
 add-i : tie.Need-add-i Inv-loop2 μ-loop2 Inv-loop3 μ-loop3 Inv-loop4 μ-loop4 Inv-loop μ-loop
 add-i c =
@@ -391,7 +391,7 @@ request-of-requires :
     μ-loop4
     Inv-loop
     μ-loop
-request-of-requires c κs = search needs
+request-of-requires c κs = tt
 
 posting-place-requires :
     tie.Need-posting-place-requires
@@ -403,7 +403,7 @@ posting-place-requires :
     μ-loop4
     Inv-loop
     μ-loop
-posting-place-requires c κs = search needs
+posting-place-requires c κs = tt
 
 no-offer-requires :
     tie.Need-no-offer-requires
@@ -415,7 +415,7 @@ no-offer-requires :
     μ-loop4
     Inv-loop
     μ-loop
-no-offer-requires c κs = search needs
+no-offer-requires c κs = tt
 
 no-amounts-requires :
     tie.Need-no-amounts-requires
@@ -427,7 +427,7 @@ no-amounts-requires :
     μ-loop4
     Inv-loop
     μ-loop
-no-amounts-requires c κs = search needs
+no-amounts-requires c κs = tt
 
 loop2-holds :
     tie.Need-loop2-holds Inv-loop2 μ-loop2 Inv-loop3 μ-loop3 Inv-loop4 μ-loop4 Inv-loop μ-loop
@@ -617,11 +617,11 @@ number-of-requires :
     μ-loop4
     Inv-loop
     μ-loop
-number-of-requires c κs = search needs
+number-of-requires c κs = tt
 
 line-of-requires :
     tie.Need-line-of-requires Inv-loop2 μ-loop2 Inv-loop3 μ-loop3 Inv-loop4 μ-loop4 Inv-loop μ-loop
-line-of-requires c κs = search needs
+line-of-requires c κs = tt
 
 posted-of-requires :
     tie.Need-posted-of-requires
@@ -633,11 +633,11 @@ posted-of-requires :
     μ-loop4
     Inv-loop
     μ-loop
-posted-of-requires c κs = search needs
+posted-of-requires c κs = tt
 
 reply-requires-2 :
     tie.Need-reply-requires-2 Inv-loop2 μ-loop2 Inv-loop3 μ-loop3 Inv-loop4 μ-loop4 Inv-loop μ-loop
-reply-requires-2 c κs = search needs
+reply-requires-2 c κs = tt
 
 add-i-2 : tie.Need-add-i-2 Inv-loop2 μ-loop2 Inv-loop3 μ-loop3 Inv-loop4 μ-loop4 Inv-loop μ-loop
 add-i-2 c =
@@ -773,7 +773,7 @@ member-at-requires :
     μ-loop4
     Inv-loop
     μ-loop
-member-at-requires c κs = search needs
+member-at-requires c κs = tt
 
 mul-grains :
     tie.Need-mul-grains Inv-loop2 μ-loop2 Inv-loop3 μ-loop3 Inv-loop4 μ-loop4 Inv-loop μ-loop
