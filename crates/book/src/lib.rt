@@ -16,7 +16,7 @@ ghost use Rattle.book.specs.Hours.{hourRefused, hourPosted, voidIn, reco
 ghost use Rattle.ledger.specs.Ledger.{void};
 ghost use Rattle.ledger.specs.Numbers.{refusalNumber, refusalLine, numberOf, lineOf, postedOf};
 ghost use Rattle.ledger.specs.Total.{noTotal, totalDecided};
-ghost use Rattle.ledger.specs.Requests.{takeRequest, releaseRequest, moveRequest, voidRequest, settleRequest, restateRequest, partOf, callFor, askedAt, requestAt};
+ghost use Rattle.ledger.specs.Requests.{takeRequest, releaseRequest, moveRequest, voidRequest, settleRequest, restateRequest, partOf, callFor, askedAt};
 ghost use Rattle.book.specs.Sound.{PostReady, RecordDue, HourSound, Sound, WellRead};
 use energy::GrossKwh;
 use energy::HubKwh;
@@ -908,14 +908,6 @@ pub fn asked_at(calls: &[u64], i: usize) -> Asked
         end: 0,
         start: 0,
     }
-}
-
-// The request of call i of a list.
-pub fn request_at(sheet: Sheet, calls: &[u64], text: &[u8], i: usize) -> Request
-    ensures { λ r. ⌜ r ≡ requestAt sheet (now (calls .entry)) (now (text .entry)) i ⌝ }
-{
-    let asked = asked_at(calls, i);
-    request_of(sheet, text, asked)
 }
 
 // Document 01's number of a refusal.

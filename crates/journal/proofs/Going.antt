@@ -40,16 +40,6 @@ use Rattle.journal.proofs.Posted.{posted-paste}
 use Rattle.journal.proofs.Turned.{length-list}
 use Rattle.journal.proofs.Listed.{states}
 
--- what the next calls leave after what the first ones left
-pub commits-then : (sheet : Sheet) (calls x y z : List ℕ) (a b c : Stand) → Commits sheet calls x y a b → Commits sheet calls y z b c → Commits sheet calls x z a c
-commits-then sheet calls x y z a b c f g text journal first s =
-    let t = f text journal first s in
-    let u = g text journal first (t .0) in
-    (u .0, u .1 ∙ t .1)
-
-pub commits-none : (sheet : Sheet) (calls x : List ℕ) (a : Stand) → Commits sheet calls x x a a
-commits-none sheet calls x a text journal first s = (s, refl)
-
 module _ (sheet : Sheet) (calls text : List ℕ) (journal : List Posting) (first : List ℕ) where
   abbrev at : ℕ → Running
   at k = ranAll sheet calls text (begunWith journal first) k

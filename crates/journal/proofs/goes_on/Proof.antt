@@ -3,7 +3,6 @@
 use mathlib.Core.Path.{refl}
 use native.Mathlib.Omega.{arith}
 use borrow.Author.Tests.{lt-ltb, le-ltb}
-use borrow.Author.Needs.{needs}
 use Rattle.journal.proofs.goes_on.Statement.{statement}
 use Rattle.journal.proofs.goes_on.Tie as tie
 
