@@ -7,11 +7,13 @@ ghost use Rattle.decimal.specs.Output.{output, written, filled};
 ghost use Rattle.listing.specs.Listing.{mostBytes};
 ghost use Rattle.account.specs.Day.{takeRow, takeOf, settleOf, nextAt, noneDue, dueAt, answeredBy, takenDue, dayWith, dayFrom};
 ghost use Rattle.account.specs.Statement.{dayLines, statementOf};
+use energy::HubKwh;
 use ledger::Answer;
 use ledger::Asked;
 use lines::ReadAnswer;
 use sheet::Sheet;
 use state::Book;
+use state::HourEntry;
 use text::Line;
 use text::Row;
 
@@ -215,7 +217,8 @@ pub fn day_of(sheet: Sheet, text: &[u8], at: usize) -> Day
 {
     let holds = sheet::sheet_holds(sheet);
     let units = sheet.units;
-    let limits = book::limits_of(sheet);
+    let offers = settlement::all_offers(sheet);
+    let limits = book::limits_of(units, offers);
     let mut book = state::empty_book();
     let mut count: u64 = 0;
     let mut due = due_at(text, at, text.len() + 1);
@@ -241,8 +244,25 @@ pub fn day_of(sheet: Sheet, text: &[u8], at: usize) -> Day
         } else {
             let request = book::request_of(sheet, text, asked);
             let h = book::posting_place(request);
-            let day = settlement::hour_sheet(sheet, h as u64 + 1);
-            let entry = state::hour_entry(book, h);
+            let mut offer = [offer::no_offer(); 8];
+            let mut held = [HubKwh(0); 8];
+            let mut old = [settlement::no_amounts(); 8];
+            let mut u: usize = 0;
+            while u < 8 {
+                let o = offers[8 * h + u];
+                let kwh = book.commitment[8 * h + u];
+                let its = book.amounts[8 * h + u];
+                offer[u] = o;
+                held[u] = kwh;
+                old[u] = its;
+                u += 1;
+            }
+            let day = settlement::hour_sheet_with(sheet, h as u64 + 1, offer);
+            let entry = HourEntry {
+                mark: book.mark[h],
+                commitment: held,
+                amounts: old,
+            };
             let d = book::decide_known(holds, day, entry, request, count, 2000);
             let answer = d.answer;
             due = due_after(text, due.after, due.left, d.place, answer);

@@ -2,7 +2,7 @@
 -- and book: the rows look at nothing else, and a refusal changes nothing, whatever the hour.
 -- Assumes nothing.
 use mathlib.Core.Path.{_≡_, refl, sym, ap, _∙_}
-use mathlib.Core.Bool.{Bool, true, false, cond, not, _&&_}
+use mathlib.Core.Bool.{Bool, true, false, true≢false, cond, not, _&&_}
 use mathlib.Core.List.{_++_}
 use Prim.Native.Nat.{ℕ, suc, _+_, _-_, _^_, _≤_, _<_}
 use native.Mathlib.Omega.{arith}
@@ -30,7 +30,7 @@ use Rattle.ledger.specs.declared.Decision.{Decision}
 use Rattle.book.specs.declared.HourDecision.{HourDecision}
 use Rattle.ledger.specs.Calls.{Row, row, verdict, badHour, isSettled, textRows, recordTests, voidTests, recordRows, voidRows, requestRows, placeAfter, byVerdict, refusedWith, postedWith, recordedAt, voidedAt, acceptedIn, requestDecided, decided}
 use Rattle.book.specs.Commitments.{hourPlace}
-use Rattle.book.specs.Hours.{hourRefused, hourPosted, hourVerdict, entrySettled, voidPosted, recordPosted, testsIn, textIn, voidIn, settleIn, restateIn, hourOf, postingPlace, hourIn, knownIn, appliedTo}
+use Rattle.book.specs.Hours.{hourRefused, hourPosted, hourVerdict, entrySettled, voidPosted, recordPosted, testsIn, textIn, voidIn, settleIn, restateIn, hourOf, postingPlace, hourIn, knownIn, appliedWith, appliedNot, appliedTo}
 use Rattle.book.specs.Sound.{WellRead, Known}
 use Rattle.book.proofs.Ladders.{kind-other, decided-9, decided-on}
 
@@ -86,6 +86,41 @@ pub known-few : (holds : Bool) (day : HourSheet) (e : HourEntry) (q : Request) (
 unfolding knownIn
 known-few true day e q count places h t = let k = h refl in omega (arith, hour-few day e q count places (k .0), k .1)
 known-few false day e q count places h t = absurd (let z : _≡_ {A = ℕ} 0 1 = cc in omega arith)
+
+-- nothing is posted by one that is not accepted
+module _ (day : HourSheet) (e : HourEntry) (q : Request) (count places : ℕ) where
+  none-by : (v : Verdict) (d : HourDecision) (start : ℕ) → d .accepted ≡ true → hourVerdict v d (hourRefused start) .accepted ≡ false → hourVerdict v d (hourRefused start) .n ≡ 0
+  none-by passes d start t f = absurd (true≢false (sym t ∙ f))
+  none-by (fails r) d start t f = refl
+
+  hour-none : hourIn day e q count places .accepted ≡ false → hourIn day e q count places .n ≡ 0
+  unfolding hourIn settleIn restateIn voidIn
+  hour-none = by (eqb (q .kind) 4) (eqb (q .kind) 5)
+    where
+      of-record : (standing : Row) → textIn day e q standing count places .accepted ≡ false → textIn day e q standing count places .n ≡ 0
+      of-record standing = none-by (verdict (textRows (q .answer) ++ testsIn day (q .read) standing count places)) (recordPosted day e (q .read) (placeAfter (q .start) (q .answer))) (q .start) refl
+
+      by : (t u : Bool) → cond t (settleIn day e q count places) (cond u (restateIn day e q count places) (voidIn day e count (q .start) (q .hour) places)) .accepted ≡ false
+          → cond t (settleIn day e q count places) (cond u (restateIn day e q count places) (voidIn day e count (q .start) (q .hour) places)) .n ≡ 0
+      by true u = of-record (row HourStands (entrySettled e))
+      by false true = of-record (row HourOpen (not (entrySettled e)))
+      by false false = none-by (verdict (voidTests (day .units) (q .hour) (entrySettled e) count places)) (voidPosted day e (q .hour)) (q .start) refl
+
+pub known-none : (holds : Bool) (day : HourSheet) (e : HourEntry) (q : Request) (count places : ℕ) → knownIn holds day e q count places .accepted ≡ false
+    → knownIn holds day e q count places .n ≡ 0
+unfolding knownIn
+known-none true day e q count places f = hour-none day e q count places f
+known-none false day e q count places f = refl
+
+-- an accepted one and a refused one on the book
+module _ (units : ℕ) (b : Book) (count h : ℕ) (d : HourDecision) where
+  pub applied-with : d .accepted ≡ true → appliedTo units b count h d ≡ appliedWith units b count h d
+  unfolding appliedTo
+  applied-with t = simp t
+
+  pub applied-not : d .accepted ≡ false → appliedTo units b count h d ≡ appliedNot b count d
+  unfolding appliedTo
+  applied-not t = simp t
 
 module _ (s : Sheet) (b : Book) (count places : ℕ) where
   refused-on : (h start : ℕ) (r : Refusal) → appliedTo (s .units) b count h (hourRefused start r) ≡ refusedWith b count start r

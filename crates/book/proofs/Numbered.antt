@@ -9,7 +9,7 @@ use Rattle.sheet.specs.declared.Sheet.{Sheet}
 use Rattle.ledger.specs.Calls.{plainRequest, recordRequest, requestOf}
 use Rattle.ledger.specs.declared.Asked.{Asked}
 use Rattle.ledger.specs.declared.Request.{Request}
-use Rattle.ledger.specs.Requests.{partOf, callFor, askedAt, callAt, requestAt}
+use Rattle.ledger.specs.Requests.{partOf, callFor}
 use Rattle.book.proofs.Ladders.{kind-other}
 
 module _ (s : Sheet) (text : List ℕ) (a : Asked) where
@@ -56,8 +56,3 @@ posts-by s text a other = by (eqb (a .kind) 4) refl (eqb (a .kind) 5) refl
     by true e u f = ap commits (sym (settle-by s text a (n .0) (n .1) (n .2) e))
     by false e true f = ap commits (sym (restate-by s text a (n .0) (n .1) (n .2) e f))
     by false e false f = ap commits (sym (void-by s text a (n .0) (n .1) (n .2) e f))
-
-pub posts-at : (s : Sheet) (calls text : List ℕ) (i : ℕ) → (leb 1 (askedAt calls i .kind) && leb (askedAt calls i .kind) 3) ≡ false
-    → (leb 1 (requestAt s calls text i .kind) && leb (requestAt s calls text i .kind) 3) ≡ false
-unfolding requestAt callAt
-posts-at s calls text i = posts-by s text (askedAt calls i)

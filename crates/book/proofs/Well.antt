@@ -9,7 +9,7 @@ use Rattle.sheet.specs.declared.Sheet.{Sheet}
 use Rattle.ledger.specs.Ledger.{Call, take, release, move, settle, restate, void}
 use Rattle.ledger.specs.Calls.{plainRequest, recordRequest, requestOf}
 use Rattle.book.specs.Sound.{WellRead}
-use Rattle.ledger.specs.Requests.{takeRequest, releaseRequest, moveRequest, voidRequest, settleRequest, restateRequest, callAt, requestAt}
+use Rattle.ledger.specs.Requests.{takeRequest, releaseRequest, moveRequest, voidRequest, settleRequest, restateRequest}
 use Rattle.ledger.proofs.Accepted.{given-range}
 
 plain-well : (s : Sheet) (kind hour unit to kwh : ℕ) → WellRead s (plainRequest kind hour unit to kwh)
@@ -50,7 +50,3 @@ module _ (s : Sheet) where
   call-well (settle text start) = record-well s 4 text start
   call-well (restate text start) = record-well s 5 text start
   call-well (void hour) = plain-well s 6 hour 0 0 0
-
-  pub at-well : (calls text : List ℕ) (i : ℕ) → WellRead s (requestAt s calls text i)
-  unfolding requestAt
-  at-well calls text i = call-well (callAt calls text i)

@@ -88,11 +88,10 @@ hourIn day e q count places =
 unfoldable pub knownIn : Bool → HourSheet → HourEntry → Request → (count places : ℕ) → HourDecision
 knownIn holds day e q count places = cond holds (hourIn day e q count places) (hourRefused (q .start) SheetRange)
 
--- the decision on the book: an accepted one posts from the count on and writes the hour at place h
-unfoldable pub appliedTo : (units : ℕ) → Book → (count h : ℕ) → HourDecision → Decision
-appliedTo units b count h d =
-    cond (d .accepted)
-    (record {
+-- the decision on the book: an accepted one posts from the count on and writes the hour at place h, a refused one changes nothing
+abbrev pub appliedWith : (units : ℕ) → Book → (count h : ℕ) → HourDecision → Decision
+appliedWith units b count h d =
+    record {
       plan = d .plan;
       at = count;
       n = d .n;
@@ -100,5 +99,10 @@ appliedTo units b count h d =
       place = d .place;
       count = count + d .n;
       book = withHour b h (d .mark) units (d .result);
-    })
-    (record { plan = d .plan; at = 0; n = d .n; answer = d .answer; place = d .place; count = count; book = b })
+    }
+
+abbrev pub appliedNot : Book → (count : ℕ) → HourDecision → Decision
+appliedNot b count d = record { plan = d .plan; at = 0; n = d .n; answer = d .answer; place = d .place; count = count; book = b }
+
+unfoldable pub appliedTo : (units : ℕ) → Book → (count h : ℕ) → HourDecision → Decision
+appliedTo units b count h d = cond (d .accepted) (appliedWith units b count h d) (appliedNot b count d)

@@ -7,15 +7,16 @@ ghost use Prim.Native.Nat.{ℕ, _+_, _/_, _%_, _^_, _≤_, _<_, min};
 ghost use lib.ListN.{getD};
 ghost use Rattle.state.specs.Book.{noKwh};
 ghost use Rattle.lines.specs.declared.ReadAnswer.the-variants.{Read};
-ghost use Rattle.state.specs.Ranges.{limitOf, limitAt, AmountsWithin};
-ghost use Rattle.sheet.specs.Ranges.{offerAt};
+ghost use Rattle.units.specs.Units.{memberAt};
+ghost use Rattle.offer.specs.Offer.{pastOffer};
+ghost use Rattle.state.specs.Ranges.{limitOf, AmountsWithin};
 ghost use Rattle.ledger.specs.Calls.{verdict, badHour, unknownUnits, shortOf, takeTests, releaseTests, moveTests, noPlan, refusedWith, changedTo, requestDecided, bookFits, decided, outcomeOf, plainRequest, readRequest, requestOf};
 ghost use Rattle.book.specs.Commitments.{hourPlace, entryPlace, commitVerdict, targetOf, leftWith, heldThen, shiftOf, commitmentDecided};
 ghost use Rattle.book.specs.Hours.{hourRefused, hourPosted, voidIn, recordIn, settleIn, restateIn, hourOf, postingPlace, hourIn, knownIn, appliedTo};
 ghost use Rattle.ledger.specs.Ledger.{void};
 ghost use Rattle.ledger.specs.Numbers.{refusalNumber, refusalLine, numberOf, lineOf, postedOf};
 ghost use Rattle.ledger.specs.Total.{noTotal, totalDecided};
-ghost use Rattle.ledger.specs.Requests.{takeRequest, releaseRequest, moveRequest, voidRequest, settleRequest, restateRequest, partOf, callFor, askedAt, requestAt};
+ghost use Rattle.ledger.specs.Requests.{takeRequest, releaseRequest, moveRequest, voidRequest, settleRequest, restateRequest, partOf, callFor, askedAt};
 ghost use Rattle.book.specs.Sound.{PostReady, RecordDue, HourSound, Sound, WellRead};
 use energy::GrossKwh;
 use energy::HubKwh;
@@ -29,6 +30,7 @@ use ledger::TotalAnswer;
 use ledger::Verdict;
 use lines::ReadAnswer;
 use lines::TextRefusal;
+use offer::Offer;
 use postings::Plan;
 use postings::Scanned;
 use record::Record;
@@ -36,7 +38,6 @@ use settlement::Amounts;
 use settlement::HourResult;
 use settlement::HourSheet;
 use sheet::Sheet;
-use sheet::UnitSheet;
 use state::Book;
 use state::HourEntry;
 
@@ -690,33 +691,16 @@ pub fn commits(kind: u64) -> bool
     kind <= 3
 }
 
-// The limits with those of place k's unit in all hours.
-fn with_limits(limits: [HubKwh; 192], k: usize, member: bool, u: UnitSheet) -> [HubKwh; 192]
-    requires { ⌜ k < 8 ⌝ }
-    ensures { λ r. ⌜ ((j : ℕ) → j < 192 → getD r j noKwh ≡ cond (eqb (j % 8) k) (limitOf member (offerAt u (j / 8))) (getD limits j noKwh)) ⌝ }
+// What each commitment may not exceed, by all offers of the sheet.
+pub fn limits_of(units: u64, offers: [Offer; 192]) -> [HubKwh; 192]
+    ensures { λ r. ⌜ ((j : ℕ) → j < 192 → getD r j noKwh ≡ limitOf (memberAt units (j % 8)) (getD offers j pastOffer)) ⌝ }
 {
-    let mut kept = limits;
-    let mut h: usize = 0;
-    while h < 24 {
-        let o = u.offers[h];
-        kept[8 * h + k] = state::limit_of(member, o);
-        h += 1;
-    }
-    kept
-}
-
-// What each commitment may not exceed, by the sheet.
-pub fn limits_of(sheet: Sheet) -> [HubKwh; 192]
-    ensures { λ r. ⌜ ((j : ℕ) → j < 192 → getD r j noKwh ≡ limitAt sheet (j / 8) (j % 8)) ⌝ }
-{
-    let units = sheet.units;
     let mut limits = [HubKwh(0); 192];
-    let mut k: usize = 0;
-    while k < 8 {
-        let u = sheet.unit[k];
-        let next = with_limits(limits, k, units::member_at(units, k), u);
-        limits = next;
-        k += 1;
+    let mut j: usize = 0;
+    while j < 192 {
+        let o = offers[j];
+        limits[j] = state::limit_of(units::member_at(units, j % 8), o);
+        j += 1;
     }
     limits
 }
@@ -924,14 +908,6 @@ pub fn asked_at(calls: &[u64], i: usize) -> Asked
         end: 0,
         start: 0,
     }
-}
-
-// The request of call i of a list.
-pub fn request_at(sheet: Sheet, calls: &[u64], text: &[u8], i: usize) -> Request
-    ensures { λ r. ⌜ r ≡ requestAt sheet (now (calls .entry)) (now (text .entry)) i ⌝ }
-{
-    let asked = asked_at(calls, i);
-    request_of(sheet, text, asked)
 }
 
 // Document 01's number of a refusal.

@@ -1,15 +1,16 @@
 -- What is written in two parts is written as one, by going through the first part. The buffer keeps its length. The digits of a number
--- are those of its tens and one more: a definition that could go on for longer gives the same digits.
+-- are those of its tens and one more, so those of its hundreds and two more: a definition that could go on for longer gives the same digits.
 -- Assumes nothing.
 use mathlib.Core.Path.{_≡_, refl, ap, sym, _∙_}
 use mathlib.Core.Bool.{Bool, true, false, cond}
-use mathlib.Core.List.{List, [], _∷_, _++_}
-use Prim.Native.Nat.{ℕ, zero, suc, _+_, _/_, _%_, _≤_, _<_}
+use mathlib.Core.List.{List, [], _∷_, _++_, append-assoc}
+use Prim.Native.Nat.{ℕ, zero, suc, _+_, _*_, _/_, _%_, _≤_, _<_}
 use native.Mathlib.Omega.{arith}
+use lib.Arith.{mod-mul}
 use lib.Dec.{ltb}
 use lib.ListN.{length, set, length-set}
 use Rattle.decimal.specs.Output.{Output, output, withByte, written}
-use Rattle.decimal.specs.Decimal.{digitsIn, digits}
+use Rattle.decimal.specs.Decimal.{digitsIn, digits, twoDigits}
 use borrow.Author.Tests.{lt-ltb, le-ltb, ltb-true, ltb-false}
 
 -- first some bytes, then others: both together
@@ -84,3 +85,17 @@ unfolding digits
 digits-more zero h = absurd (omega arith)
 digits-more (suc n) h =
     more-digits n (suc n) h ∙ ap (λ (xs : List ℕ). xs ++ ((48 + suc n % 10) ∷ [])) (same-digits n (suc n / 10) (suc n / 10) (omega arith) (omega arith))
+
+-- below 100 these are two digits, and from there on those of its hundreds, and two more
+pub digits-two : (n : ℕ) → 10 ≤ n → n < 100 → digits n ≡ twoDigits n
+digits-two n h l =
+    digits-more n h ∙ ap (λ (xs : List ℕ). xs ++ ((48 + n % 10) ∷ [])) (digits-one (n / 10) (omega arith))
+
+pub digits-hundreds : (n : ℕ) → 100 ≤ n → digits n ≡ digits (n / 100) ++ twoDigits (n % 100)
+digits-hundreds n h =
+    let last : n % 10 ≡ n % 100 % 10 = omega arith in
+    let both : n % 100 ≡ (n / 10 % 10) * 10 + n % 10 = mod-mul n {m = 10} {c = 10} (omega arith) (omega arith) in
+    let ten : n / 10 % 10 ≡ n % 100 / 10 = omega arith in
+    let hundreds : n / 10 / 10 ≡ n / 100 = omega arith in
+    digits-more n (omega arith)
+    ∙ rw (digits-more (n / 10) (omega arith), append-assoc, last, ten, hundreds)

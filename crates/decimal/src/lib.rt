@@ -4,7 +4,7 @@ ghost use mathlib.Core.Path.{_≡_};
 ghost use Prim.Native.Nat.{_+_, _<_};
 ghost use lib.IntN.{natAbs};
 ghost use Rattle.decimal.specs.Output.{output, withByte, written};
-ghost use Rattle.decimal.specs.Decimal.{digits, signed};
+ghost use Rattle.decimal.specs.Decimal.{twoDigits, digits, signed};
 
 pub fn put_byte(out: &mut [u8], at: usize, byte: u8) -> usize
     ensures { λ r. ⌜ output (now (out .exit)) r ≡ withByte (output (now (out .entry)) at) byte ⌝ }
@@ -36,15 +36,27 @@ fn digit(n: u64) -> u8
     48 + n as u8
 }
 
-// A number: the digits of its tens, then its last digit.
+// The tens and the last digit of a number below 100.
+fn put_two(out: &mut [u8], at: usize, n: u64) -> usize
+    requires { ⌜ n < 100 ⌝ }
+    ensures { λ r. ⌜ output (now (out .exit)) r ≡ written (output (now (out .entry)) at) (twoDigits n) ⌝ }
+{
+    let place = put_byte(out, at, digit(n / 10));
+    put_byte(out, place, digit(n % 10))
+}
+
+// A number: the digits of its hundreds, then its last two.
 pub fn put_number(out: &mut [u8], at: usize, n: u64) -> usize
     ensures { λ r. ⌜ output (now (out .exit)) r ≡ written (output (now (out .entry)) at) (digits n) ⌝ }
 {
     if n < 10 {
         return put_byte(out, at, digit(n));
     }
-    let place = put_number(out, at, n / 10);
-    put_byte(out, place, digit(n % 10))
+    if n < 100 {
+        return put_two(out, at, n);
+    }
+    let place = put_number(out, at, n / 100);
+    put_two(out, place, n % 100)
 }
 
 // A number without its sign.

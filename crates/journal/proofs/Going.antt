@@ -40,16 +40,6 @@ use Rattle.journal.proofs.Posted.{posted-paste}
 use Rattle.journal.proofs.Turned.{length-list}
 use Rattle.journal.proofs.Listed.{states}
 
--- what the next calls leave after what the first ones left
-pub commits-then : (sheet : Sheet) (calls x y z : List ℕ) (a b c : Stand) → Commits sheet calls x y a b → Commits sheet calls y z b c → Commits sheet calls x z a c
-commits-then sheet calls x y z a b c f g text journal first s =
-    let t = f text journal first s in
-    let u = g text journal first (t .0) in
-    (u .0, u .1 ∙ t .1)
-
-pub commits-none : (sheet : Sheet) (calls x : List ℕ) (a : Stand) → Commits sheet calls x x a a
-commits-none sheet calls x a text journal first s = (s, refl)
-
 module _ (sheet : Sheet) (calls text : List ℕ) (journal : List Posting) (first : List ℕ) where
   abbrev at : ℕ → Running
   at k = ranAll sheet calls text (begunWith journal first) k
@@ -224,12 +214,12 @@ module _ (sheet : Sheet) (calls text : List ℕ) (journal : List Posting) (first
         known = s .known;
       }
 
-  pub call-list : listAt sheet calls text journal first (st .next + 1) ≡ posted (listAt sheet calls text journal first (st .next)) (d .at) (d .plan) (d .n)
+  pub call-list : listAt sheet calls text journal first (st .next + 1) ≡ posted (listAt sheet calls text journal first (st .next)) (d .at) (d .plan .row) (d .n)
   call-list =
       ap (λ (n : ℕ). ranAll sheet calls text (begunWith journal first) n .list) (add-one (st .next))
       ∙ (next-list sheet calls text journal first (st .next)
       ∙ (ap (journalAfter (now-at .list)) decided-here
-      ∙ sym (posted-paste (now-at .list) (d .at) (d .plan) (d .n)
+      ∙ sym (posted-paste (now-at .list) (d .at) (d .plan .row) (d .n)
       (omega (arith, decided-fits sheet (st .book) (requestAt sheet calls text (st .next)) (st .count) places true .1, length-list sheet calls text (begunWith journal first) (st .next)))
       (decided-rows sheet (st .book) (requestAt sheet calls text (st .next)) (st .count) places true))))
 
@@ -237,11 +227,11 @@ module _ (sheet : Sheet) (calls text : List ℕ) (journal : List Posting) (first
   pub call-next : (x : Decision) → x ≡ d → (number line count : ℕ) → number ≡ numberOf (x .answer) → line ≡ lineOf (x .answer) → count ≡ postedOf (x .answer)
       → (answers′ : List ℕ) → answers′ ≡ replied answers (st .next) number line count (x .place)
       → Stands sheet calls text journal first answers′ (record { book = x .book; count = x .count; next = st .next + 1; holds = st .holds })
-      × (listAt sheet calls text journal first (st .next + 1) ≡ posted (listAt sheet calls text journal first (st .next)) (x .at) (x .plan) (x .n))
+      × (listAt sheet calls text journal first (st .next + 1) ≡ posted (listAt sheet calls text journal first (st .next)) (x .at) (x .plan .row) (x .n))
   call-next x x-is number line count number-is line-is count-is answers′ answers-are =
       subst (λ (w : List ℕ). Stands sheet calls text journal first w (record { book = x .book; count = x .count; next = st .next + 1; holds = st .holds })
-      × (listAt sheet calls text journal first (st .next + 1) ≡ posted (listAt sheet calls text journal first (st .next)) (x .at) (x .plan) (x .n)))
+      × (listAt sheet calls text journal first (st .next + 1) ≡ posted (listAt sheet calls text journal first (st .next)) (x .at) (x .plan .row) (x .n)))
       (sym (answers-are ∙ (λ i. replied answers (st .next) (number-is i) (line-is i) (count-is i) (x .place))))
       (subst (λ (y : Decision). Stands sheet calls text journal first (replied answers (st .next) (numberOf (y .answer)) (lineOf (y .answer)) (postedOf (y .answer)) (y .place)) (record { book = y .book; count = y .count; next = st .next + 1; holds = st .holds })
-      × (listAt sheet calls text journal first (st .next + 1) ≡ posted (listAt sheet calls text journal first (st .next)) (y .at) (y .plan) (y .n)))
+      × (listAt sheet calls text journal first (st .next + 1) ≡ posted (listAt sheet calls text journal first (st .next)) (y .at) (y .plan .row) (y .n)))
       (sym x-is) (call-stands, call-list))

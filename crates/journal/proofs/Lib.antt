@@ -1,4 +1,5 @@
 pub mod Again
+pub mod Appended
 pub mod OwnList
 pub mod Posted
 pub mod Turned
@@ -8,3 +9,4 @@ pub mod Params
 pub mod Thin
 pub mod Stood
 pub mod Going
+pub mod Onward

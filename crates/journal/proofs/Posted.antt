@@ -7,7 +7,7 @@ use mathlib.Core.List.{List}
 use Prim.Native.Nat.{ℕ, zero, suc, _+_, _-_, _≤_}
 use native.Mathlib.Omega.{arith}
 use lib.IntN.{ℤ}
-use lib.ListN.{length, set, length-set, take}
+use lib.ListN.{length, getD, set, length-set, take}
 use lib.Seq.{paste, paste-zero, paste-suc}
 use Rattle.finite.proofs.Tests.{and-left, and-right}
 use Rattle.sheet.specs.declared.Sheet.{Sheet}
@@ -15,9 +15,7 @@ use Rattle.sheet.specs.Ranges.{sheetHolds}
 use Rattle.state.specs.declared.Book.{Book}
 use Rattle.state.specs.Ranges.{bookHolds}
 use Rattle.postings.specs.declared.Posting.{Posting}
-use Rattle.postings.specs.declared.Plan.{Plan}
 use Rattle.postings.specs.Journal.{noPosting, coveredBy, countHolds, postedHold, totalOf, scannedTo}
-use Rattle.postings.specs.Plan.{rowOf}
 use Rattle.postings.proofs.Counted.{count-list, count-most, covered-all}
 use Rattle.postings.proofs.Scan.{scan-good, scan-sum}
 use Rattle.ledger.specs.declared.Request.{Request}
@@ -28,22 +26,22 @@ use Rattle.ledger.specs.Total.{totalBy, itemOf, totalDecided, totalOn}
 use Rattle.ledger.proofs.Places.{decided-fits, decided-rows, fits-by, decided-same}
 use Rattle.journal.specs.Journal.{scannedIn, posted, Performed, performed}
 
-pub length-posted : (l : List Posting) (at : ℕ) (p : Plan) (k : ℕ) → length (posted l at p k) ≡ length l
+pub length-posted : (l : List Posting) (at : ℕ) (rows : List Posting) (k : ℕ) → length (posted l at rows k) ≡ length l
 unfolding posted
-length-posted l at p zero = refl
-length-posted l at p (suc k) = length-set (posted l at p k) (at + k) (rowOf p k) ∙ length-posted l at p k
+length-posted l at rows zero = refl
+length-posted l at rows (suc k) = length-set (posted l at rows k) (at + k) (getD rows k noPosting) ∙ length-posted l at rows k
 
 pub covered-le : (count len : ℕ) → coveredBy count len ≤ len
 unfolding coveredBy
 covered-le count len = omega arith
 
 -- rows stored one after the other are pasted in
-pub posted-paste : (l : List Posting) (at : ℕ) (p : Plan) (n : ℕ) → n ≤ length l - at → n ≤ length (p .row) → posted l at p n ≡ paste l at (p .row) n
+pub posted-paste : (l : List Posting) (at : ℕ) (rows : List Posting) (n : ℕ) → n ≤ length l - at → n ≤ length rows → posted l at rows n ≡ paste l at rows n
 unfolding posted
-posted-paste l at p zero h r = paste-zero l at (p .row)
-posted-paste l at p (suc k) h r =
-    ap (λ (z : List Posting). set z (at + k) (rowOf p k)) (posted-paste l at p k (omega arith) (omega arith))
-    ∙ paste-suc l at (p .row) k noPosting (omega arith) r
+posted-paste l at rows zero h r = paste-zero l at rows
+posted-paste l at rows (suc k) h r =
+    ap (λ (z : List Posting). set z (at + k) (getD rows k noPosting)) (posted-paste l at rows k (omega arith) (omega arith))
+    ∙ paste-suc l at rows k noPosting (omega arith) r
 
 module _ (l : List Posting) (count : ℕ) where
   -- where the count holds, the scan sees all postings up to it
@@ -62,11 +60,11 @@ module _ (l : List Posting) (count : ℕ) where
       abbrev d : Decision
       d = decided s b q count (length l) good
 
-      posted-is : posted l (d .at) (d .plan) (d .n) ≡ journalAfter l d
-      posted-is = posted-paste l (d .at) (d .plan) (d .n) (decided-fits s b q count (length l) good .1) (decided-rows s b q count (length l) good)
+      posted-is : posted l (d .at) (d .plan .row) (d .n) ≡ journalAfter l d
+      posted-is = posted-paste l (d .at) (d .plan .row) (d .n) (decided-fits s b q count (length l) good .1) (decided-rows s b q count (length l) good)
 
       -- a call from its parts, by whatever tells whether the postings up to the count hold
-      pub performed-by : (countHolds count (length l) ≡ true → good ≡ postedHold (take count l)) → (zs : List Posting) → zs ≡ posted l (d .at) (d .plan) (d .n)
+      pub performed-by : (countHolds count (length l) ≡ true → good ≡ postedHold (take count l)) → (zs : List Posting) → zs ≡ posted l (d .at) (d .plan .row) (d .n)
           → _≡_ {A = Performed} (record { outcome = outcomeOf d; list = zs }) (performed l count s b q)
       unfolding performed
       performed-by tells zs e =
@@ -74,15 +72,15 @@ module _ (l : List Posting) (count : ℕ) where
           ∙ ap (λ (x : Decision). record { outcome = outcomeOf x; list = journalAfter l x }) (decided-same s b q count (length l) good _ tells)
 
     -- by the scan
-    pub performed-is : (q : Request) (zs : List Posting) → zs ≡ posted l (decidedBy q .at) (decidedBy q .plan) (decidedBy q .n)
+    pub performed-is : (q : Request) (zs : List Posting) → zs ≡ posted l (decidedBy q .at) (decidedBy q .plan .row) (decidedBy q .n)
         → _≡_ {A = Performed} (record { outcome = outcomeOf (decidedBy q); list = zs }) (performed l count s b q)
     performed-is q zs e = performed-by q (scannedIn l count 0 0 .good) (seen-good 0 0) zs e
 
     -- a call keeps the list's length
     pub length-performed : (q : Request) → length (performed l count s b q .list) ≡ length l
     length-performed q =
-        ap (λ (p : Performed). length (p .list)) (sym (performed-is q (posted l (decidedBy q .at) (decidedBy q .plan) (decidedBy q .n)) refl))
-        ∙ length-posted l (decidedBy q .at) (decidedBy q .plan) (decidedBy q .n)
+        ap (λ (p : Performed). length (p .list)) (sym (performed-is q (posted l (decidedBy q .at) (decidedBy q .plan .row) (decidedBy q .n)) refl))
+        ∙ length-posted l (decidedBy q .at) (decidedBy q .plan .row) (decidedBy q .n)
 
     -- a total is asked of a sum only where 12 does not hold
     total-same : (sheetFits fits known : Bool) (x y : ℤ) → (fits ≡ true → x ≡ y) → totalBy sheetFits fits known x ≡ totalBy sheetFits fits known y

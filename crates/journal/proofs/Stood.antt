@@ -1,4 +1,4 @@
--- What `go_on` leaves and `append` posts, taken together: the list was the one after the calls before the next one, and the postings appended are
+-- What `go_on` leaves and `append_all` posts, taken together: the list was the one after the calls before the next one, and the postings appended are
 -- those of the calls since, so it is the one after them. From turn to turn it stays so, and after the last call all is as the definitions say.
 -- Assumes nothing.
 use mathlib.Core.Path.{_≡_, refl, sym, ap, subst, _∙_}
@@ -23,7 +23,7 @@ module _ (sheet : Sheet) (calls text : List ℕ) where
   abbrev pub Goes : (places : ℕ) (answers after : List ℕ) → Stand → Step → Type 0
   Goes places answers after stand step =
       (journal : List Posting) (first : List ℕ) → length journal ≡ places → Stands sheet calls text journal first answers stand
-      → Stands sheet calls text journal first after (step .stand) × (listAt sheet calls text journal first (step .stand .next) ≡ posted (listAt sheet calls text journal first (stand .next)) (step .at) (step .plan) (step .n))
+      → Stands sheet calls text journal first after (step .stand) × (listAt sheet calls text journal first (step .stand .next) ≡ posted (listAt sheet calls text journal first (stand .next)) (step .at) (step .row) (step .n))
 
   -- what `turn` ensures, the list being `list` before it and `left` after it
   abbrev pub Leaves : (list left : List Posting) (answers after : List ℕ) (stand r : Stand) → Type 0
@@ -31,10 +31,10 @@ module _ (sheet : Sheet) (calls text : List ℕ) where
       (journal : List Posting) (first : List ℕ) → length journal ≡ length list → Stands sheet calls text journal first answers stand → list ≡ listAt sheet calls text journal first (stand .next)
       → Stands sheet calls text journal first after r × (left ≡ listAt sheet calls text journal first (r .next))
 
-  pub stood : (list left : List Posting) (answers after : List ℕ) (stand : Stand) (step : Step) → Goes (length list) answers after stand step → left ≡ posted list (step .at) (step .plan) (step .n) → Leaves list left answers after stand (step .stand)
+  pub stood : (list left : List Posting) (answers after : List ℕ) (stand : Stand) (step : Step) → Goes (length list) answers after stand step → left ≡ posted list (step .at) (step .row) (step .n) → Leaves list left answers after stand (step .stand)
   stood list left answers after stand step goes e journal first long stands at =
       let onward = goes journal first long stands in
-      (onward .0, e ∙ (ap (λ (l : List Posting). posted l (step .at) (step .plan) (step .n)) at ∙ sym (onward .1)))
+      (onward .0, e ∙ (ap (λ (l : List Posting). posted l (step .at) (step .row) (step .n)) at ∙ sym (onward .1)))
 
   -- the list of calls that begins with `journal` and `first`
   module _ (journal : List Posting) (first : List ℕ) where

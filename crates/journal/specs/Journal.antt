@@ -1,14 +1,12 @@
 -- A call over the lent journal (01, Book and journal): what it answers and leaves, and what it appends.
 use Prim.Native.Nat.{ℕ, zero, suc, _+_}
 use mathlib.Core.List.{List}
-use lib.ListN.{length, set}
+use lib.ListN.{length, getD, set}
 use Rattle.sheet.specs.declared.Sheet.{Sheet}
 use Rattle.state.specs.declared.Book.{Book}
 use Rattle.postings.specs.declared.Posting.{Posting}
-use Rattle.postings.specs.declared.Plan.{Plan}
 use Rattle.postings.specs.declared.Scanned.{Scanned}
-use Rattle.postings.specs.Journal.{coveredBy, scannedTo}
-use Rattle.postings.specs.Plan.{rowOf}
+use Rattle.postings.specs.Journal.{noPosting, coveredBy, scannedTo}
 use Rattle.ledger.specs.declared.Request.{Request}
 use Rattle.ledger.specs.declared.Decision.{Decision}
 use Rattle.ledger.specs.declared.Outcome.{Outcome}
@@ -18,10 +16,10 @@ use Rattle.ledger.specs.Calls.{decidedOn, journalAfter, outcomeOf}
 abbrev pub scannedIn : List Posting → (count unit item : ℕ) → Scanned
 scannedIn l count unit item = scannedTo l unit item (coveredBy count (length l))
 
--- the first n rows of a plan stored one after the other from the place `at` on
-unfoldable pub posted : List Posting → (at : ℕ) → Plan → ℕ → List Posting
-posted l at p zero = l
-posted l at p (suc k) = set (posted l at p k) (at + k) (rowOf p k)
+-- the first n rows stored one after the other from the place `at` on
+unfoldable pub posted : List Posting → (at : ℕ) → (rows : List Posting) → ℕ → List Posting
+posted l at rows zero = l
+posted l at rows (suc k) = set (posted l at rows k) (at + k) (getD rows k noPosting)
 
 -- the answer, text place, count and book after a call, and the list
 pub record Performed : Type 0 where

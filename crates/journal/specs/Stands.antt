@@ -1,16 +1,13 @@
 -- A list of calls under way: what its parts rest on between two calls. `journal` is the list of places and `first` the answers' places as they were
 -- before the first call.
 use mathlib.Core.Path.{_≡_}
-use mathlib.Core.Bool.{true, false, _&&_}
 use mathlib.Core.List.{List}
 use Prim.Native.Nat.{ℕ, _/_, _≤_, _<_}
-use lib.Dec.{leb}
 use lib.ListN.{length}
 use Rattle.sheet.specs.declared.Sheet.{Sheet}
 use Rattle.sheet.specs.Ranges.{sheetHolds}
 use Rattle.state.specs.Book.{emptyBook}
 use Rattle.postings.specs.declared.Posting.{Posting}
-use Rattle.ledger.specs.Requests.{askedAt}
 use Rattle.journal.specs.declared.Ran.{Ran}
 use Rattle.journal.specs.declared.Stand.{Stand}
 use Rattle.journal.specs.Run.{Running, startRan, ranAll}
@@ -44,15 +41,7 @@ pub record Due (sheet : Sheet) (calls text answers : List ℕ) (places n : ℕ) 
   pub more : st .next < n
   pub room : n ≤ length answers / 4
 
--- the calls from one place on up to another are takes, releases and moves
-abbrev pub AllCommit : List ℕ → (from to : ℕ) → Type 0
-AllCommit calls from to = (j : ℕ) → from ≤ j → j < to → (leb 1 (askedAt calls j .kind) && leb (askedAt calls j .kind) 3) ≡ true
-
--- a call is a settle, a restate or a void
-abbrev pub Posts : List ℕ → ℕ → Type 0
-Posts calls i = (leb 1 (askedAt calls i .kind) && leb (askedAt calls i .kind) 3) ≡ false
-
--- what they leave: the list of places is as before them
+-- what takes, releases and moves leave: the list of places is as before them
 abbrev pub Commits : Sheet → (calls entry exit : List ℕ) → (before after : Stand) → Type 0
 Commits sheet calls entry exit before after =
     (text : List ℕ) (journal : List Posting) (first : List ℕ) → Stands sheet calls text journal first entry before

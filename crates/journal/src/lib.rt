@@ -1,29 +1,29 @@
 // The calls over the lent journal, a list of postings and a count of them. What a call comes to is decided in the crate `book`; here the
 // postings are looked at and appended.
 ghost use mathlib.Core.Path.{_≡_};
-ghost use mathlib.Core.Bool.{true, false, _&&_};
+ghost use mathlib.Core.Bool.{_&&_};
 ghost use mathlib.Core.List.{List};
-ghost use lib.Dec.{leb};
+ghost use lib.Dec.{leb, ltb};
 ghost use Prim.Native.Nat.{ℕ, _≤_, _<_, _-_};
 ghost use lib.ListN.{length};
-ghost use Rattle.book.specs.Sound.{WellRead, Known};
-ghost use Rattle.ledger.specs.Calls.{requestOf, decided};
+ghost use Rattle.book.specs.Sound.{WellRead};
+ghost use Rattle.ledger.specs.Calls.{requestOf};
 ghost use Rattle.ledger.specs.Total.{totalOn};
 ghost use Rattle.ledger.specs.Requests.{takeRequest, releaseRequest, moveRequest, settleRequest, restateRequest, voidRequest, callFor, callsIn};
 ghost use Rattle.ledger.specs.Demand.{Demand};
 ghost use Rattle.journal.specs.Journal.{scannedIn, posted, performed};
 ghost use Rattle.journal.specs.Run.{startRan, turnsOf, replied, repliesIn, ranAll};
-ghost use Rattle.journal.specs.Stands.{startStand, ranOf, listAt, Stands, Due, AllCommit, Posts, Commits};
+ghost use Rattle.journal.specs.Stands.{startStand, ranOf, listAt, Stands, Due};
+use energy::HubKwh;
 use ledger::Asked;
-use ledger::Decision;
 use ledger::Outcome;
 use ledger::Request;
 use ledger::TotalAnswer;
-use postings::Plan;
 use postings::Posting;
 use postings::Scanned;
 use sheet::Sheet;
 use state::Book;
+use state::HourEntry;
 
 // The postings up to the count are looked at, those of a unit and an item added; the list stays as it is.
 fn scan(list: &mut [Posting], count: u64, unit: u64, item: u64) -> Scanned
@@ -40,14 +40,27 @@ fn scan(list: &mut [Posting], count: u64, unit: u64, item: u64) -> Scanned
     s
 }
 
-// The first n rows of a plan go to the places from `at` on.
-fn append(list: &mut [Posting], at: usize, plan: Plan, n: usize)
+// The first n rows go to the places from `at` on.
+fn append(list: &mut [Posting], at: usize, rows: [Posting; 40], n: usize)
     requires { ⌜ (n ≤ 40) × (n ≤ length (now list) - at) ⌝ }
-    ensures { λ _. ⌜ now (list .exit) ≡ posted (now (list .entry)) at plan n ⌝ }
+    ensures { λ _. ⌜ now (list .exit) ≡ posted (now (list .entry)) at rows n ⌝ }
 {
     let mut k: usize = 0;
     while k < n {
-        let x = postings::row_of(plan, k);
+        let x = rows[k];
+        list[at + k] = x;
+        k += 1;
+    }
+}
+
+// The same of the rows of several calls.
+fn append_all(list: &mut [Posting], at: usize, rows: [Posting; 640], n: usize)
+    requires { ⌜ (n ≤ 640) × (n ≤ length (now list) - at) ⌝ }
+    ensures { λ _. ⌜ now (list .exit) ≡ posted (now (list .entry)) at rows n ⌝ }
+{
+    let mut k: usize = 0;
+    while k < n {
+        let x = rows[k];
         list[at + k] = x;
         k += 1;
     }
@@ -60,7 +73,7 @@ fn perform(list: &mut [Posting], count: u64, sheet: Sheet, book: Book, request: 
 {
     let seen = scan(list, count, 0, 0);
     let d = book::decide(sheet, book, request, count, list.len(), seen.good);
-    append(list, d.at, d.plan, d.n);
+    append(list, d.at, d.plan.row, d.n);
     book::outcome_of(d)
 }
 
@@ -191,9 +204,9 @@ pub struct Stand {
     pub holds: bool,
 }
 
-// The calls up to one that posts: where the list stands after them, and the n postings of the last one, from place `at` on.
+// Some calls: where the list stands after them, and the n postings that they come to, from place `at` on.
 pub struct Step {
-    pub plan: Plan,
+    pub row: [Posting; 640],
     pub at: usize,
     pub n: usize,
     pub stand: Stand,
@@ -237,93 +250,18 @@ fn reply(answers: &mut [u64], i: usize, number: u64, line: u64, posted: u64, pla
     }
 }
 
-// Where the takes, releases and moves from call `from` on end, at n at the latest.
-fn commits_end(calls: &[u64], from: usize, n: usize) -> usize
-    ensures { λ r. ⌜ (from ≤ n → (from ≤ r) × (r ≤ n)) × AllCommit (now (calls .entry)) from r × (r < n → Posts (now (calls .entry)) r) ⌝ }
+// Whether a call is left, and the rows have room for what one more posts.
+fn goes_on(i: usize, n: usize, m: usize) -> bool
+    ensures { λ r. ⌜ r ≡ (ltb i n && leb m 600) ⌝ }
 {
-    let mut i = from;
-    while i < n {
-        let asked = book::asked_at(calls, i);
-        if !book::commits(asked.kind) {
-            return i;
-        }
-        i += 1;
+    if n <= i {
+        return false;
     }
-    i
+    m <= 600
 }
 
-// The calls up to `end`, all of them takes, releases and moves, carried out in place.
-fn committed(sheet: Sheet, calls: &[u64], answers: &mut [u64], end: usize, stand: Stand) -> Stand
-    requires { ⌜ (stand .next ≤ end) × AllCommit (now calls) (stand .next) end ⌝ }
-    ensures { λ r. ⌜ Commits sheet (now (calls .entry)) (now (answers .entry)) (now (answers .exit)) stand r ⌝ }
-    ensures { λ r. ⌜ r .next ≡ end ⌝ }
-{
-    let units = sheet.units;
-    let limits = book::limits_of(sheet);
-    let holds = stand.holds;
-    let mut book = stand.book;
-    let mut i = stand.next;
-    while i < end {
-        let asked = book::asked_at(calls, i);
-        let kind = asked.kind;
-        let hour = asked.hour;
-        let unit = asked.unit;
-        let h = book::hour_place(hour);
-        let from = book::entry_place(hour, unit);
-        let target = book::entry_place(hour, book::target_of(kind, unit, asked.to));
-        let settled = book.mark[h] == 1;
-        let source = book.commitment[from];
-        let held = book.commitment[target];
-        let last = limits[target];
-        let shift = book::shift_of(holds, units, asked, settled, source, held, last);
-        let left = shift.from;
-        let then = shift.to;
-        book.commitment[from] = left;
-        book.commitment[target] = then;
-        reply(answers, i, shift.number, 0, 0, 0);
-        i += 1;
-    }
-    Stand {
-        book,
-        count: stand.count,
-        next: i,
-        holds,
-    }
-}
-
-// The takes, releases and moves from the next call on.
-fn commitments(sheet: Sheet, calls: &[u64], answers: &mut [u64], n: usize, stand: Stand) -> Stand
-    requires { ⌜ stand .next ≤ n ⌝ }
-    ensures { λ r. ⌜ Commits sheet (now (calls .entry)) (now (answers .entry)) (now (answers .exit)) stand r ⌝ }
-    ensures { λ r. ⌜ (stand .next ≤ r .next) × (r .next ≤ n) × (r .next < n → Posts (now (calls .entry)) (r .next)) ⌝ }
-{
-    let end = commits_end(calls, stand.next, n);
-    if end <= stand.next {
-        return stand;
-    }
-    committed(sheet, calls, answers, end, stand)
-}
-
-// What a settle, restate or void comes to, where the list is known to be in its ranges: decided by what the sheet and the book have of its hour.
-fn decided_at(
-    sheet: Sheet,
-    holds: bool,
-    book: Book,
-    request: Request,
-    count: u64,
-    places: usize,
-) -> Decision
-    requires { ⌜ Known sheet holds book count places × WellRead sheet request × ((leb 1 (request .kind) && leb (request .kind) 3) ≡ false) ⌝ }
-    ensures { λ r. ⌜ r ≡ decided sheet book request count places true ⌝ }
-{
-    let h = book::posting_place(request);
-    let day = settlement::hour_sheet(sheet, h as u64 + 1);
-    let entry = state::hour_entry(book, h);
-    let d = book::decide_known(holds, day, entry, request, count, places);
-    book::applied(book, h, sheet.units, count, d)
-}
-
-// The takes, releases and moves from the next call on, and the call after them, if one is left. What that one posts is not appended yet.
+// The calls from the next one on, carried out on the book in place, until none is left or the rows are full. What they post is not
+// appended yet.
 fn go_on(
     sheet: Sheet,
     calls: &[u64],
@@ -334,43 +272,106 @@ fn go_on(
     stand: Stand,
 ) -> Step
     requires { ⌜ Due sheet (now calls) (now text) (now answers) places n stand ⌝ }
-    ensures { λ r. ⌜ ((journal : List Posting) (first : List ℕ) → length journal ≡ places → Stands sheet (now (calls .entry)) (now (text .entry)) journal first (now (answers .entry)) stand → Stands sheet (now (calls .entry)) (now (text .entry)) journal first (now (answers .exit)) (r .stand) × (listAt sheet (now (calls .entry)) (now (text .entry)) journal first (r .stand .next) ≡ posted (listAt sheet (now (calls .entry)) (now (text .entry)) journal first (stand .next)) (r .at) (r .plan) (r .n))) ⌝ }
-    ensures { λ r. ⌜ (r .n ≤ 40) × (r .n ≤ places - r .at) ⌝ }
+    ensures { λ r. ⌜ ((journal : List Posting) (first : List ℕ) → length journal ≡ places → Stands sheet (now (calls .entry)) (now (text .entry)) journal first (now (answers .entry)) stand → Stands sheet (now (calls .entry)) (now (text .entry)) journal first (now (answers .exit)) (r .stand) × (listAt sheet (now (calls .entry)) (now (text .entry)) journal first (r .stand .next) ≡ posted (listAt sheet (now (calls .entry)) (now (text .entry)) journal first (stand .next)) (r .at) (r .row) (r .n))) ⌝ }
+    ensures { λ r. ⌜ (r .n ≤ 640) × (r .n ≤ places - r .at) ⌝ }
     ensures { λ r. ⌜ (stand .next < r .stand .next) × (r .stand .next ≤ n) ⌝ }
 {
-    let before = commitments(sheet, calls, answers, n, stand);
-    let i = before.next;
-    if n <= i {
-        return Step {
-            plan: book::no_plan(),
-            at: 0,
-            n: 0,
-            stand: before,
-        };
+    let units = sheet.units;
+    let offers = settlement::all_offers(sheet);
+    let limits = book::limits_of(units, offers);
+    let holds = stand.holds;
+    let mut book = stand.book;
+    let mut count = stand.count;
+    let mut i = stand.next;
+    let mut row = [postings::no_posting(); 640];
+    let mut m: usize = 0;
+    while goes_on(i, n, m) {
+        let asked = book::asked_at(calls, i);
+        if book::commits(asked.kind) {
+            let kind = asked.kind;
+            let hour = asked.hour;
+            let unit = asked.unit;
+            let h = book::hour_place(hour);
+            let from = book::entry_place(hour, unit);
+            let target = book::entry_place(hour, book::target_of(kind, unit, asked.to));
+            let settled = book.mark[h] == 1;
+            let source = book.commitment[from];
+            let held = book.commitment[target];
+            let last = limits[target];
+            let shift = book::shift_of(holds, units, asked, settled, source, held, last);
+            let left = shift.from;
+            let then = shift.to;
+            book.commitment[from] = left;
+            book.commitment[target] = then;
+            reply(answers, i, shift.number, 0, 0, 0);
+            i += 1;
+        } else {
+            let request = book::request_of(sheet, text, asked);
+            let h = book::posting_place(request);
+            let mut offer = [offer::no_offer(); 8];
+            let mut held = [HubKwh(0); 8];
+            let mut old = [settlement::no_amounts(); 8];
+            let mut k: usize = 0;
+            while k < 8 {
+                let o = offers[8 * h + k];
+                let kwh = book.commitment[8 * h + k];
+                let its = book.amounts[8 * h + k];
+                offer[k] = o;
+                held[k] = kwh;
+                old[k] = its;
+                k += 1;
+            }
+            let day = settlement::hour_sheet_with(sheet, h as u64 + 1, offer);
+            let entry = HourEntry {
+                mark: book.mark[h],
+                commitment: held,
+                amounts: old,
+            };
+            let d = book::decide_known(holds, day, entry, request, count, places);
+            let answer = d.answer;
+            reply(
+                answers,
+                i,
+                book::number_of(answer),
+                book::line_of(answer),
+                book::posted_of(answer),
+                d.place,
+            );
+            i += 1;
+            if d.accepted {
+                let plan = d.plan;
+                let result = d.result;
+                let mut j: usize = 0;
+                while j < 40 {
+                    let x = plan.row[j];
+                    row[m + j] = x;
+                    j += 1;
+                }
+                book.mark[h] = d.mark;
+                count += d.n as u64;
+                m += d.n;
+                let mut u: usize = 0;
+                while u < 8 {
+                    if units::member_at(units, u) {
+                        let grains = result.energy[u];
+                        let amounts = result.amounts[u];
+                        book.energy[8 * h + u] = grains;
+                        book.amounts[8 * h + u] = amounts;
+                    }
+                    u += 1;
+                }
+            }
+        }
     }
-    let book = before.book;
-    let request = book::request_at(sheet, calls, text, i);
-    let d = decided_at(sheet, before.holds, book, request, before.count, places);
-    let answer = d.answer;
-    reply(
-        answers,
-        i,
-        book::number_of(answer),
-        book::line_of(answer),
-        book::posted_of(answer),
-        d.place,
-    );
-    let plan = d.plan;
-    let after = d.book;
     Step {
-        plan: plan,
-        at: d.at,
-        n: d.n,
+        row,
+        at: stand.count as usize,
+        n: m,
         stand: Stand {
-            book: after,
-            count: d.count,
-            next: i + 1,
-            holds: before.holds,
+            book,
+            count,
+            next: i,
+            holds,
         },
     }
 }
@@ -389,7 +390,7 @@ fn turn(
     ensures { λ r. ⌜ ((journal : List Posting) (first : List ℕ) → length journal ≡ length (now (list .entry)) → Stands sheet (now (calls .entry)) (now (text .entry)) journal first (now (answers .entry)) stand → now (list .entry) ≡ listAt sheet (now (calls .entry)) (now (text .entry)) journal first (stand .next) → Stands sheet (now (calls .entry)) (now (text .entry)) journal first (now (answers .exit)) r × (now (list .exit) ≡ listAt sheet (now (calls .entry)) (now (text .entry)) journal first (r .next))) × ((stand .next < r .next) × (r .next ≤ n)) ⌝ }
 {
     let step = go_on(sheet, calls, text, answers, list.len(), n, stand);
-    append(list, step.at, step.plan, step.n);
+    append_all(list, step.at, step.row, step.n);
     stand_of(step)
 }
 

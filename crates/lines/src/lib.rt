@@ -2,9 +2,11 @@
 // 25 cells for each line: first how many numbers the line has, then its 24 numbers.
 ghost use mathlib.Core.Path.{_≡_};
 ghost use Prim.Native.Nat.{_+_, _^_, _≤_, _<_};
-ghost use lib.ListN.{length, getD, replicate};
-ghost use Rattle.text.specs.Rows.{Held};
-ghost use Rattle.lines.specs.Lines.{Reading, lineBy, readLine};
+ghost use mathlib.Core.Bool.{cond};
+ghost use lib.ListN.{length, drop, getD};
+ghost use Rattle.text.specs.Text.{seek, before, has};
+ghost use Rattle.text.specs.Rows.{valueOf};
+ghost use Rattle.lines.specs.Lines.{Reading, readLine};
 ghost use Rattle.lines.specs.Cells.{lineIn, Blank, Placed, Shows};
 ghost use Rattle.lines.specs.Refusals.{textNumber, textLine, textRefusal, badStart, answerOf};
 use text::Head;
@@ -95,42 +97,31 @@ pub fn answer_of(start: usize, c: Cursor) -> ReadAnswer
     ReadAnswer::Refused(text_refusal(c.refusal, c.lines as u64 + 1))
 }
 
-// A line without its LF, by its row, its numbers stored in a list of 24 zeros.
-fn line_into(line: &[u8], row: Row, number: &mut [u64]) -> Head
-    requires { ⌜ now number ≡ replicate 24 0 ⌝ }
-    ensures { λ r. ⌜ Held r (now (number .exit)) (lineBy (now (line .entry)) row) ⌝ }
-{
-    let key = row.key;
-    if text::key_is(line, key) {
-        return text::value_into(text::value_of(line), row, number);
-    }
-    Head { code: 1, count: 0 }
-}
-
-// The code of a line whose numbers are kept nowhere.
-fn line_code(line: &[u8], row: Row) -> u64
-    ensures { λ r. ⌜ r ≡ lineBy (now (line .entry)) row .code ⌝ }
+// The head of a value, up to its LF, whose numbers are kept nowhere.
+fn value_head(value: &[u8], row: Row) -> Head
+    ensures { λ r. ⌜ r .code ≡ valueOf row (before 10 (now (value .entry))) .code ⌝ }
+    ensures { λ r. ⌜ (r .code ≡ 0 → r .end ≡ seek 10 10 (now (value .entry))) ⌝ }
 {
     let mut number = [0u64; 24];
-    let h = line_into(line, row, &mut number);
-    h.code
+    text::value_into(value, row, &mut number)
 }
 
-// Line k without its LF, by its row, read into its own cells where there is room for them. The result is the line's code.
-fn line_kept(line: &[u8], row: Row, k: usize, cells: &mut [u64]) -> u64
+// The value of line k, up to its LF, by its row, read into the line's own cells where there is room for them.
+fn value_kept(value: &[u8], row: Row, k: usize, cells: &mut [u64]) -> Head
     requires { ⌜ k < 2 ^ 32 ⌝ }
     requires { ⌜ Blank (now cells) k ⌝ }
-    ensures { λ r. ⌜ Placed (now (cells .entry)) (now (cells .exit)) k r (lineBy (now (line .entry)) row) ⌝ }
+    ensures { λ r. ⌜ Placed (now (cells .entry)) (now (cells .exit)) k (r .code) (valueOf row (before 10 (now (value .entry)))) ⌝ }
+    ensures { λ r. ⌜ (r .code ≡ 0 → r .end ≡ seek 10 10 (now (value .entry))) ⌝ }
 {
     let at = 25 * k;
     let first = at + 1;
     let last = first + 24;
     if cells.len() < last {
-        return line_code(line, row);
+        return value_head(value, row);
     }
-    let h = line_into(line, row, &mut cells[first..last]);
+    let h = text::value_into(value, row, &mut cells[first..last]);
     cells[at] = h.count as u64;
-    h.code
+    h
 }
 
 // How many numbers line k has.
@@ -167,6 +158,28 @@ pub fn start() -> Cursor
     }
 }
 
+// The refusal of the line at a place that is refused by its row with a code: 4 where the text ends inside the line.
+fn refusal_at(text: &[u8], at: usize, code: u64) -> u64
+    ensures { λ r. ⌜ r ≡ cond (has 10 (drop at (now (text .entry)))) code 4 ⌝ }
+{
+    let e = text::find(text, at, b'\n', b'\n');
+    if text.len() <= e {
+        return 4;
+    }
+    code
+}
+
+// The reading ends at the line due.
+fn refused(c: Cursor, refusal: u64) -> Cursor
+    ensures { λ r. ⌜ r ≡ record { refusal = refusal; at = c .at; lines = c .lines } ⌝ }
+{
+    Cursor {
+        refusal: refusal,
+        at: c.at,
+        lines: c.lines,
+    }
+}
+
 // The line due, by its row; nothing where the text is refused already.
 pub fn read_line(text: &[u8], row: Row, c: Cursor, cells: &mut [u64]) -> Cursor
     requires { ⌜ c .lines < 2 ^ 32 ⌝ }
@@ -180,21 +193,22 @@ pub fn read_line(text: &[u8], row: Row, c: Cursor, cells: &mut [u64]) -> Cursor
     }
     let at = c.at;
     let k = c.lines;
-    let e = text::find(text, at, b'\n', b'\n');
-    if text.len() <= e {
-        return Cursor {
-            refusal: 4,
-            at: at,
-            lines: k,
-        };
+    if text.len() < at {
+        return refused(c, 4);
     }
-    let code = line_kept(&text[at..e], row, k, cells);
-    if code != 0 {
-        return Cursor {
-            refusal: code,
-            at: at,
-            lines: k,
-        };
+    let key = row.key;
+    let from = text::key_end(&text[at..], key);
+    if from == 0 {
+        return refused(c, refusal_at(text, at, 1));
+    }
+    let begin = at + from;
+    let h = value_kept(&text[begin..], row, k, cells);
+    if h.code != 0 {
+        return refused(c, refusal_at(text, at, h.code));
+    }
+    let e = begin + h.end;
+    if text.len() <= e {
+        return refused(c, 4);
     }
     Cursor {
         refusal: 0,

@@ -1,8 +1,9 @@
 -- What the statement prints (01, Program and marked figures), as bytes: 10 is LF, 32 a space.
-use Prim.Native.Nat.{ℕ, zero, suc, _+_, _*_}
+use Prim.Native.Nat.{ℕ, zero, suc, _+_, _*_, _/_, _%_}
 use mathlib.Core.Bool.{cond}
 use mathlib.Core.List.{List, [], _∷_, _++_}
 use lib.Dec.{eqb}
+use lib.ListN.{getD}
 use Rattle.decimal.specs.Decimal.{digits, signed}
 use Rattle.text.specs.Bytes.{bytes}
 use Rattle.units.specs.Units.{memberAt}
@@ -10,7 +11,7 @@ use Rattle.energy.specs.declared.HubGrains.{HubGrains}
 use Rattle.settlement.specs.declared.Amounts.{Amounts}
 use Rattle.state.specs.declared.Book.{Book}
 use Rattle.state.specs.Sizes.{hours, places, items}
-use Rattle.state.specs.Book.{markAt, energyAt, amountsAt, itemOf, settledMark}
+use Rattle.state.specs.Book.{noGrains, pastAmounts, markAt, energyAt, amountsAt, itemOf, settledMark}
 
 -- the most bytes that a number, a field, a line, an hour and a whole statement have, as numbers are machine words
 abbrev pub mostNumber : ℕ
@@ -57,6 +58,13 @@ hourLines units b h = cond (eqb (markAt b h) settledMark) (joined places (placeL
 
 unfoldable pub settledLines : (units : ℕ) → Book → List ℕ
 settledLines units b = joined hours (hourLines units b)
+
+-- for the code: the same line by line, that of entry e being of hour e / 8 and place e % 8
+abbrev pub entryLine : (units mark h k : ℕ) → HubGrains → Amounts → List ℕ
+entryLine units mark h k grains a = cond (eqb mark settledMark) (lineOf units h k grains a) []
+
+abbrev pub entryLines : (units : ℕ) → Book → (e : ℕ) → List ℕ
+entryLines units b e = entryLine units (markAt b (e / 8)) (e / 8) (e % 8) (getD (b .energy) e noGrains) (getD (b .amounts) e pastAmounts)
 
 -- "on the first refusal it prints only `refused=` and the number"
 unfoldable pub refusalLine : ℕ → List ℕ

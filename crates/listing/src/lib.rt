@@ -3,7 +3,7 @@ ghost use mathlib.Core.Path.{_≡_};
 ghost use Prim.Native.Nat.{_+_, _*_, _≤_, _<_};
 ghost use Rattle.state.specs.Sizes.{hours, places, items};
 ghost use Rattle.decimal.specs.Output.{output, written};
-ghost use Rattle.listing.specs.Listing.{mostField, mostLine, mostHour, mostBytes, joined, numberField, itemField, unitLine, lineOf, placeLine, hourLines, settledLines, refusalLine};
+ghost use Rattle.listing.specs.Listing.{mostField, mostLine, mostBytes, joined, numberField, itemField, unitLine, lineOf, entryLine, settledLines, refusalLine};
 use energy::HubGrains;
 use settlement::Amounts;
 use state::Book;
@@ -79,45 +79,41 @@ fn put_place(
     at
 }
 
-// The lines of hour h. The book is read in place.
-fn put_places(out: &mut [u8], at: usize, units: u64, book: Book, h: usize) -> usize
-    requires { ⌜ h < hours ⌝ }
-    ensures { λ r. ⌜ output (now (out .exit)) r ≡ written (output (now (out .entry)) at) (joined places (placeLine units book h)) ⌝ }
-    ensures { λ r. ⌜ r ≤ at + mostHour ⌝ }
+// What a line of the unit of place k in hour h, both from 0, says where that hour stands settled.
+fn put_entry(
+    out: &mut [u8],
+    at: usize,
+    units: u64,
+    mark: u64,
+    h: usize,
+    k: usize,
+    grains: HubGrains,
+    amounts: Amounts,
+) -> usize
+    requires { ⌜ (h < hours) × (k < places) ⌝ }
+    ensures { λ r. ⌜ output (now (out .exit)) r ≡ written (output (now (out .entry)) at) (entryLine units mark h k grains amounts) ⌝ }
+    ensures { λ r. ⌜ r ≤ at + mostLine ⌝ }
 {
-    let mut place = at;
-    let mut k: usize = 0;
-    while k < 8 {
-        let grains = book.energy[8 * h + k];
-        let amounts = book.amounts[8 * h + k];
-        place = put_place(out, place, units, h, k, grains, amounts);
-        k += 1;
-    }
-    place
-}
-
-// The lines of hour h, from 0, where it stands settled.
-fn put_hour(out: &mut [u8], at: usize, units: u64, book: Book, h: usize) -> usize
-    requires { ⌜ h < hours ⌝ }
-    ensures { λ r. ⌜ output (now (out .exit)) r ≡ written (output (now (out .entry)) at) (hourLines units book h) ⌝ }
-    ensures { λ r. ⌜ r ≤ at + mostHour ⌝ }
-{
-    if state::mark_at(book, h) == 1 {
-        return put_places(out, at, units, book, h);
+    if mark == 1 {
+        return put_place(out, at, units, h, k, grains, amounts);
     }
     at
 }
 
-// The settled hours.
+// The settled hours. The book is read in place, entry by entry.
 pub fn put_settled(out: &mut [u8], at: usize, units: u64, book: Book) -> usize
     ensures { λ r. ⌜ output (now (out .exit)) r ≡ written (output (now (out .entry)) at) (settledLines units book) ⌝ }
     ensures { λ r. ⌜ r ≤ at + mostBytes ⌝ }
 {
     let mut place = at;
-    let mut h: usize = 0;
-    while h < 24 {
-        place = put_hour(out, place, units, book, h);
-        h += 1;
+    let mut e: usize = 0;
+    while e < 192 {
+        let h = e / 8;
+        let mark = book.mark[h];
+        let grains = book.energy[e];
+        let amounts = book.amounts[e];
+        place = put_entry(out, place, units, mark, h, e % 8, grains, amounts);
+        e += 1;
     }
     place
 }

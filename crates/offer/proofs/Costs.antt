@@ -1,15 +1,15 @@
--- What grains cost: a sum over the grains, so it can be cut anywhere; a block's grains cost the block's price each.
+-- What grains cost: a sum over the grains, so it can be cut anywhere, and each grain costs at most 10^7.
 -- Assumes nothing.
 use mathlib.Core.Path.{_≡_, refl}
 use mathlib.Core.Bool.{true}
 use Prim.Native.Nat.{ℕ, _+_, _*_, _-_, _≤_}
 use native.Mathlib.Omega.{arith}
 use Rattle.finite.specs.Finite.{sum}
-use Rattle.finite.proofs.Sums.{sum-mono, sum-most, sum-flat}
+use Rattle.finite.proofs.Sums.{sum-mono, sum-most}
 use Rattle.energy.specs.declared.HubKwh.{HubKwh}
 use Rattle.offer.specs.declared.Offer.{Offer}
 use Rattle.offer.specs.Offer.{offerHolds}
-use Rattle.offer.specs.Modified.{priceAt, costTo, costBetween, IsBlock}
+use Rattle.offer.specs.Modified.{priceAt, costTo, costBetween}
 use Rattle.offer.proofs.Prices.{price-le}
 
 module _ (o : Offer) (commitment : HubKwh) where
@@ -28,11 +28,6 @@ module _ (o : Offer) (commitment : HubKwh) where
   pub cost-split : (a b c : ℕ) → a ≤ b → b ≤ c → costBetween o commitment a b + costBetween o commitment b c ≡ costBetween o commitment a c
   unfolding costBetween
   cost-split a b c l m = omega (arith, cost-mono a b l, cost-mono b c m)
-
-  pub cost-block : (i limit price end : ℕ) → IsBlock o commitment i limit price end → costTo o commitment end ≡ costTo o commitment i + (end - i) * price
-  unfolding costTo
-  cost-block i limit price end b =
-      sum-flat i end (priceAt o commitment) (omega (arith, b .past)) price (b .flat)
 
   -- at most 10^7 a grain
   module _ (t : offerHolds o ≡ true) where

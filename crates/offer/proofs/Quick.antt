@@ -1,7 +1,7 @@
 -- Blocks and costs as antt computes them at numerals: step by step, and not grain by grain.
 -- A step's grains are its block; past its quantity the later steps alone matter.
 -- Assumes nothing.
-use mathlib.Core.Path.{_≡_, refl, _∙_, ap}
+use mathlib.Core.Path.{_≡_, refl, sym, _∙_, ap, ap₂}
 use mathlib.Core.Bool.{cond}
 use Prim.Native.Nat.{ℕ, zero, suc, _+_, _*_, _-_, _<_, _≤_, min, max}
 use native.Mathlib.Decide.{decLt, decLe}
@@ -14,8 +14,9 @@ use Rattle.energy.specs.declared.HubKwh.{HubKwh}
 use Rattle.energy.specs.Energy.{grainsOf}
 use Rattle.offer.specs.declared.Offer.{Offer}
 use Rattle.offer.specs.Offer.{quantityAt, stepPrice}
-use Rattle.offer.specs.Modified.{priceFrom, priceAt, costTo, IsBlock}
+use Rattle.offer.specs.Modified.{priceFrom, priceAt, costTo, costBetween, IsBlock}
 use Rattle.offer.proofs.Blocks.{committed, uncommitted}
+use Rattle.offer.proofs.Costs.{cost-first}
 
 -- where the block of grain i ends, by the steps s, .., s + k, within the limit
 unfoldable pub endFrom : Offer → ℕ → ℕ → ℕ → ℕ → ℕ
@@ -112,16 +113,41 @@ module _ (o : Offer) where
       summed (priceFrom o s (suc k)) (priceFrom o (s + 1) k) (stepPrice o s) q a b (costFrom o (s + 1) k (max a q) b)
       (λ j l. rw (lt-ltb j q l)) (λ j l. rw (le-ltb j q l)) (steps-cost k (s + 1) (max a q) b)
 
-  pub cost-quick : (commitment : HubKwh) (n : ℕ) → costTo o commitment n ≡ costFrom o 0 (o .steps - 1) (grainsOf commitment .0) n
-  unfolding costTo sum
-  cost-quick commitment n =
+  -- by the steps from s on
+  abbrev pub costOn : ℕ → ℕ → ℕ → ℕ
+  costOn s a b = costFrom o s (o .steps - 1 - s) a b
+
+  pub cost-next : (s a b more at : ℕ) → s < o .steps - 1 → more ≡ min b (grainsOf (quantityAt o s) .0) - a → at ≡ max a (grainsOf (quantityAt o s) .0) → costOn s a b ≡ more * stepPrice o s + costOn (s + 1) at b
+  unfolding costFrom
+  cost-next s a b more at l m e =
+      let k : o .steps - 1 - s ≡ suc (o .steps - 1 - (s + 1)) = omega arith in
+      rw (k, m, e)
+
+  pub cost-last : (s a b : ℕ) → o .steps - 1 ≤ s → costOn s a b ≡ (b - a) * stepPrice o s
+  unfolding costFrom
+  cost-last s a b l =
+      let k : o .steps - 1 - s ≡ 0 = omega arith in
+      rw k
+
+  -- the grains from a up to b: below the commitment they cost nothing
+  pub cost-steps : (commitment : HubKwh) (a b : ℕ) → a ≤ b → costBetween o commitment a b ≡ costOn 0 (max a (grainsOf commitment .0)) b
+  unfolding costBetween costTo
+  cost-steps commitment a b l =
       let q = grainsOf commitment .0 in
       let f = priceAt o commitment in
       let g = priceFrom o 0 (o .steps - 1) in
-      let e : max 0 n ≡ n = omega arith in
+      let c = costFrom o 0 (o .steps - 1) (max a q) b in
+      let e : max a b ≡ b = omega arith in
+      let k : o .steps - 1 ≡ o .steps - 1 - 0 = omega arith in
+      let h : sum (max a b) f ≡ sum a f + ((min b q - a) * 0 + c)
+      = summed f g 0 q a b c (committed o commitment) (uncommitted o commitment) (steps-cost (o .steps - 1) 0 (max a q) b) in
+      omega (arith, h, ap (λ (m : ℕ). sum m f) e, ap (λ (m : ℕ). costFrom o 0 m (max a q) b) k)
+
+  pub cost-quick : (commitment : HubKwh) (n : ℕ) → costTo o commitment n ≡ costFrom o 0 (o .steps - 1) (grainsOf commitment .0) n
+  cost-quick commitment n =
+      let q = grainsOf commitment .0 in
       let z : max 0 q ≡ q = omega arith in
-      let c = costFrom o 0 (o .steps - 1) in
-      let h : sum (max 0 n) f ≡ sum 0 f + ((min n q - 0) * 0 + c (max 0 q) n)
-      = summed f g 0 q 0 n (c (max 0 q) n) (committed o commitment) (uncommitted o commitment)
-      (steps-cost (o .steps - 1) 0 (max 0 q) n) in
-      omega (arith, h, ap (λ (m : ℕ). sum m f) e, ap (λ (m : ℕ). c m n) z)
+      let k : o .steps - 1 - 0 ≡ o .steps - 1 = omega arith in
+      sym (cost-first o commitment n)
+      ∙ cost-steps commitment 0 n (omega arith)
+      ∙ ap₂ (λ (j m : ℕ). costFrom o 0 j m n) k z

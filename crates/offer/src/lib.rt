@@ -1,7 +1,7 @@
 // A unit's offer for an hour: its test, and the modified offer's prices and sums.
 ghost use mathlib.Core.Path.{_≡_};
 ghost use mathlib.Core.Bool.{true};
-ghost use Prim.Native.Nat.{ℕ, _-_, _≤_, _<_};
+ghost use Prim.Native.Nat.{_-_, _≤_, _<_, min, max};
 ghost use Rattle.finite.specs.Finite.{every};
 ghost use Rattle.offer.specs.Offer.{noOffer, stepsAllowed, inRange, inOrder, stepInRange, stepInOrder, offerHolds, lastQuantity};
 ghost use Rattle.offer.specs.Modified.{IsBlock, costBetween};
@@ -126,11 +126,25 @@ pub fn last_quantity(offer: Offer) -> HubKwh
     offer.quantity[last]
 }
 
+// The lesser of two numbers.
 fn least(a: u64, b: u64) -> u64
-    ensures { λ r. ⌜ (r ≤ a) × (r ≤ b) ⌝ }
-    ensures { λ r. ⌜ ((x : ℕ) → x < a → x < b → x < r) ⌝ }
+    ensures { λ r. ⌜ r ≡ min a b ⌝ }
 {
     if a < b { a } else { b }
+}
+
+// The greater of two numbers.
+fn greatest(a: u64, b: u64) -> u64
+    ensures { λ r. ⌜ r ≡ max a b ⌝ }
+{
+    if a < b { b } else { a }
+}
+
+// How many grains there are from `at` up to `end`: none where the end is not past it.
+fn grains_up_to(at: u64, end: u64) -> u64
+    ensures { λ r. ⌜ r ≡ end - at ⌝ }
+{
+    if at < end { end - at } else { 0 }
 }
 
 // The grains from i on, below `limit`, that have the price of grain i under the modified offer: the steps that end at or before grain i
@@ -167,17 +181,25 @@ pub fn block_at(offer: Offer, commitment: HubKwh, i: u64, limit: u64) -> Block
     }
 }
 
-// What the grains from `from` up to `to` cost under the modified offer, undivided: block by block.
+// What the grains from `from` up to `to` cost under the modified offer, undivided: nothing up to the commitment, then step by step; the
+// last step has no end.
 pub fn cost_between(offer: Offer, commitment: HubKwh, from: u64, to: u64) -> u64
     requires { ⌜ (offerHolds offer ≡ true) × (commitment .0 ≤ 1000000000) × (from ≤ to) × (to ≤ 100000000000) ⌝ }
     ensures { λ r. ⌜ r ≡ costBetween offer commitment from to ⌝ }
 {
+    let committed = energy::grains_of(commitment);
+    let mut at = greatest(from, committed.0);
     let mut cost: u64 = 0;
-    let mut at = from;
-    while at < to {
-        let block = block_at(offer, commitment, at, to);
-        cost += (block.end - at) * block.price;
-        at = block.end;
+    let last = offer.steps - 1;
+    let mut s: usize = 0;
+    while s < last {
+        let quantity = offer.quantity[s];
+        let end = energy::grains_of(quantity);
+        let price = offer.price[s];
+        cost += grains_up_to(at, least(end.0, to)) * price;
+        at = greatest(at, end.0);
+        s += 1;
     }
-    cost
+    let last_price = offer.price[s];
+    cost + grains_up_to(at, to) * last_price
 }

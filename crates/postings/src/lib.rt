@@ -2,11 +2,10 @@
 ghost use mathlib.Core.Path.{_≡_};
 ghost use Prim.Native.Nat.{_≤_, _<_, min};
 ghost use lib.IntN.{natAbs, _-ℤ_};
-ghost use lib.ListN.{getD};
 ghost use Rattle.state.specs.Sizes.{places, items};
 ghost use Rattle.state.specs.Ranges.{mostAmount, ItemsWithin, AmountsWithin};
 ghost use Rattle.postings.specs.Journal.{noPosting, countHolds, coveredBy, isOf, scannedWith, scannedNone};
-ghost use Rattle.postings.specs.Plan.{postingOf, planOf, rowOf};
+ghost use Rattle.postings.specs.Plan.{postingOf, planOf};
 use settlement::Amounts;
 
 // An amount posted for a unit's item in an hour, in Rial. Hour, unit and item are counted from 1.
@@ -151,22 +150,4 @@ pub fn plan_of(hour: u64, units: u64, old: [Amounts; 8], new: [Amounts; 8]) -> P
         k += 1;
     }
     Plan { row: row }
-}
-
-// The posting of a row, none past the last row.
-fn row_at(row: [Posting; 40], k: usize) -> Posting
-    ensures { λ r. ⌜ r ≡ getD row k noPosting ⌝ }
-{
-    if k < 40 {
-        return row[k];
-    }
-    no_posting()
-}
-
-// Row k of a plan, none past its end.
-pub fn row_of(plan: Plan, k: usize) -> Posting
-    ensures { λ r. ⌜ r ≡ rowOf plan k ⌝ }
-{
-    let row = plan.row;
-    row_at(row, k)
 }

@@ -47,17 +47,23 @@ unfoldable pub ratesOf : Sheet → ℕ → Rates
 ratesOf sheet hour =
     record { season = inSeason (sheet .month) (sheet .day); loss = sheet .loss; bar = sheet .bar; cpf = getD (sheet .cpf) (hour - 1) 0 }
 
--- what an hour's settlement uses of the sheet, by place
-unfoldable pub hourSheet : Sheet → ℕ → HourSheet
-hourSheet sheet hour =
+-- what an hour's settlement uses of the sheet, by place, with the units' offers of the hour
+abbrev pub hourSheetWith : Sheet → ℕ → List Offer → HourSheet
+hourSheetWith sheet hour offer =
     record {
       rates = ratesOf sheet hour;
       ceiling = sheet .ceiling;
       units = sheet .units;
       own = tabulate 8 (λ k. sheetUnit (sheet .unit) k .own);
       nominal = tabulate 8 (λ k. sheetUnit (sheet .unit) k .nominal);
-      offer = tabulate 8 (λ k. offerAt (sheetUnit (sheet .unit) k) (hour - 1));
+      offer = offer;
     }
+
+abbrev pub hourOffers : Sheet → ℕ → List Offer
+hourOffers sheet h = tabulate 8 (λ k. offerAt (sheetUnit (sheet .unit) k) h)
+
+unfoldable pub hourSheet : Sheet → ℕ → HourSheet
+hourSheet sheet hour = hourSheetWith sheet hour (hourOffers sheet (hour - 1))
 
 -- 1. Energy, by the unit's grains
 unfoldable pub energyItem : Offer → HubKwh → HubGrains → ℤ

@@ -23,9 +23,9 @@ ghost use Rattle.sheet.specs.Ranges.{unitAt as «sheet_unit», offerAt};
 ghost use Rattle.record.specs.Spans.{unitAt as «record_unit»};
 ghost use Rattle.record.proofs.InRange.{SpanInRange, UnitInRange, InRange};
 ghost use Rattle.settlement.specs.Deviation.{shortMinutes, proportions as «the_proportions», deviationsOf};
-ghost use Rattle.settlement.specs.Hour.{noAmounts, ratesOf, energyItem, availabilityItem, refundItem, testItem, amountsOf, hourSheet};
+ghost use Rattle.settlement.specs.Hour.{noAmounts, ratesOf, energyItem, availabilityItem, refundItem, testItem, amountsOf, hourSheetWith, hourSheet};
 ghost use Rattle.settlement.specs.Refusals.{readingsTotal, allMeasured, readingsHold, noProportion, unitProportioned};
-ghost use Rattle.settlement.specs.Ranges.{HourGiven, HourDue, RatesReady, SplitReady, UnitReady, UnitsReady, placeAmounts, plantBy, hourBy, proportionsBy};
+ghost use Rattle.settlement.specs.Ranges.{HourGiven, HourDue, RatesReady, SplitReady, UnitReady, UnitsReady, placeAmounts, plantBy, hourBy, proportionsBy, Listed};
 
 // The number of items of a unit.
 pub const ITEMS: usize = 5;
@@ -177,7 +177,7 @@ fn unit_amounts(
     }
 }
 
-fn no_amounts() -> Amounts
+pub fn no_amounts() -> Amounts
     ensures { λ r. ⌜ r ≡ noAmounts ⌝ }
 {
     Amounts {
@@ -334,20 +334,48 @@ fn rates_of(sheet: Sheet, hour: u64) -> Rates
     }
 }
 
-// What the settlement of an hour, 1 to 24, uses of the sheet. It is taken out once, so that the sheet is not handed on.
-pub fn hour_sheet(sheet: Sheet, hour: u64) -> HourSheet
+// What the settlement of an hour, 1 to 24, uses of the sheet, with the units' offers of that hour.
+pub fn hour_sheet_with(sheet: Sheet, hour: u64, offer: [Offer; 8]) -> HourSheet
     requires { ⌜ (1 ≤ hour) × (hour ≤ 24) ⌝ }
-    ensures { λ r. ⌜ r ≡ hourSheet sheet hour ⌝ }
+    ensures { λ r. ⌜ r ≡ hourSheetWith sheet hour offer ⌝ }
 {
-    let h = (hour - 1) as usize;
     HourSheet {
         rates: rates_of(sheet, hour),
         ceiling: sheet.ceiling,
         units: sheet.units,
         own: own_of(sheet),
         nominal: nominal_of(sheet),
-        offer: offers_of(sheet, h),
+        offer: offer,
     }
+}
+
+// What the settlement of an hour, 1 to 24, uses of the sheet. It is taken out once, so that the sheet is not handed on.
+pub fn hour_sheet(sheet: Sheet, hour: u64) -> HourSheet
+    requires { ⌜ (1 ≤ hour) × (hour ≤ 24) ⌝ }
+    ensures { λ r. ⌜ r ≡ hourSheet sheet hour ⌝ }
+{
+    let h = (hour - 1) as usize;
+    let offer = offers_of(sheet, h);
+    hour_sheet_with(sheet, hour, offer)
+}
+
+// All offers of the sheet, by hour and place as the book has its entries: that of hour h and place k, both from 0, at 8 * h + k.
+pub fn all_offers(sheet: Sheet) -> [Offer; 192]
+    ensures { λ r. ⌜ Listed sheet 8 r ⌝ }
+{
+    let mut offers = [offer::no_offer(); 192];
+    let mut k: usize = 0;
+    while k < 8 {
+        let u = sheet.unit[k];
+        let mut h: usize = 0;
+        while h < 24 {
+            let o = u.offers[h];
+            offers[8 * h + k] = o;
+            h += 1;
+        }
+        k += 1;
+    }
+    offers
 }
 
 // What the allocation rests on in the record's hour.

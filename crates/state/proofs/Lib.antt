@@ -1,6 +1,7 @@
 pub mod Bounds
 pub mod Entries
 pub mod Hour
+pub mod Taken
 pub mod Commitments
 pub mod Marks
 pub mod Empty

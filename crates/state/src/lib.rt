@@ -7,7 +7,7 @@ ghost use Rattle.finite.specs.Finite.{every};
 ghost use Rattle.units.specs.Units.{memberAt};
 ghost use Rattle.sheet.specs.Ranges.{unitAt};
 ghost use Rattle.state.specs.Sizes.{hours, places, entries, entryOf};
-ghost use Rattle.state.specs.Book.{commitmentAt, markAt, energyAt, amountsAt, hourCommitments, hourAmounts, hourEntry, emptyBook, noResult, withHour};
+ghost use Rattle.state.specs.Book.{commitmentAt, markAt, energyAt, amountsAt, hourEntry, emptyBook, noResult, withHour};
 ghost use Rattle.state.specs.Ranges.{within as «is_within», limitOf, limitAt, kwhOf, keptTo, marksHold, energiesHold, itemsHold, amountsHold, bookHolds};
 use energy::HubGrains;
 use energy::HubKwh;
@@ -88,48 +88,25 @@ pub fn amounts_at(book: Book, h: usize, k: usize) -> Amounts
     amounts[8 * h + k]
 }
 
-// An hour's commitments, by place.
-fn hour_commitments(book: Book, h: usize) -> [HubKwh; 8]
-    requires { ⌜ h < hours ⌝ }
-    ensures { λ r. ⌜ r ≡ hourCommitments book h ⌝ }
-{
-    let commitment = book.commitment;
-    let mut row = [HubKwh(0); 8];
-    let mut k: usize = 0;
-    while k < 8 {
-        let kwh = commitment[8 * h + k];
-        row[k] = kwh;
-        k += 1;
-    }
-    row
-}
-
-// An hour's amounts, by place.
-fn hour_amounts(book: Book, h: usize) -> [Amounts; 8]
-    requires { ⌜ h < hours ⌝ }
-    ensures { λ r. ⌜ r ≡ hourAmounts book h ⌝ }
-{
-    let amounts = book.amounts;
-    let none = Amounts { item: [0i64; 5] };
-    let mut row = [none; 8];
-    let mut k: usize = 0;
-    while k < 8 {
-        let its = amounts[8 * h + k];
-        row[k] = its;
-        k += 1;
-    }
-    row
-}
-
 // What a book has of an hour. It is taken out once, so that the book is not handed on.
 pub fn hour_entry(book: Book, h: usize) -> HourEntry
     requires { ⌜ h < hours ⌝ }
     ensures { λ r. ⌜ r ≡ hourEntry book h ⌝ }
 {
+    let mut commitment = [HubKwh(0); 8];
+    let mut amounts = [settlement::no_amounts(); 8];
+    let mut k: usize = 0;
+    while k < 8 {
+        let kwh = book.commitment[8 * h + k];
+        let its = book.amounts[8 * h + k];
+        commitment[k] = kwh;
+        amounts[k] = its;
+        k += 1;
+    }
     HourEntry {
-        mark: mark_at(book, h),
-        commitment: hour_commitments(book, h),
-        amounts: hour_amounts(book, h),
+        mark: book.mark[h],
+        commitment: commitment,
+        amounts: amounts,
     }
 }
 

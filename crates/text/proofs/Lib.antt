@@ -6,3 +6,5 @@ pub mod Codes
 pub mod Heads
 pub mod Parts
 pub mod Pairs
+pub mod Ended
+pub mod Keys

@@ -1,11 +1,11 @@
 // One line key=value of a text: its key, the part that is its value, decimal numbers, and the value read by a row,
-// which says what one kind of line may be.
+// which says what one kind of line may be. A value ends at its first LF, or where the bytes end.
 ghost use mathlib.Core.Path.{_≡_};
-ghost use Prim.Native.Nat.{ℕ, _+_, _*_, _/_, _<_};
-ghost use lib.Dec.{leb};
+ghost use Prim.Native.Nat.{ℕ, _+_, _*_, _/_, _≤_, _<_};
+ghost use lib.Dec.{leb, eqb};
 ghost use lib.ListN.{drop, getD, set, replicate};
 ghost use Rattle.text.specs.declared.Number.the-variants.{Value, Malformed};
-ghost use Rattle.text.specs.Text.{seek, valuePart, wordIs, keyIs, digits, numberIn};
+ghost use Rattle.text.specs.Text.{seek, before, valuePart, wordIs, keyIs, keyEnd, digits, numberIn};
 ghost use Rattle.text.specs.Rows.{word, numberRow, blankRow, wordRow, noLine, markDue, partNext, partBytes, valueOf, Held};
 
 pub enum Number {
@@ -43,10 +43,11 @@ pub struct Line {
     pub number: [u64; 24],
 }
 
-// What stands in a line beside its numbers: the code and the count.
+// What stands in a line beside its numbers: the code and the count, and of a good line the place where it ends.
 pub struct Head {
     pub code: u64,
     pub count: usize,
+    pub end: usize,
 }
 
 // key=number, from low to high.
@@ -161,6 +162,7 @@ pub fn word_is(text: &[u8], word: [u8; 10]) -> bool
     false
 }
 
+// Whether the line is key=value with the key due.
 pub fn key_is(line: &[u8], key: [u8; 10]) -> bool
     ensures { λ r. ⌜ r ≡ keyIs (now (line .entry)) key ⌝ }
 {
@@ -179,6 +181,30 @@ pub fn key_is(line: &[u8], key: [u8; 10]) -> bool
         i += 1;
     }
     false
+}
+
+// Where the value begins of the line that stands first in a text, up to its LF; 0 where the key is not the one due.
+pub fn key_end(text: &[u8], key: [u8; 10]) -> usize
+    ensures { λ r. ⌜ r ≡ keyEnd (before 10 (now (text .entry))) key ⌝ }
+{
+    let mut i = 0;
+    while i < 10 {
+        if text.len() <= i {
+            return 0;
+        }
+        let w = key[i];
+        if text[i] != w {
+            return 0;
+        }
+        if w == b'=' {
+            return i + 1;
+        }
+        if w == b'\n' {
+            return 0;
+        }
+        i += 1;
+    }
+    0
 }
 
 fn wide(x: u8) -> u64
@@ -219,10 +245,22 @@ fn within(n: u64, d: u64, high: u64) -> bool
     n <= (high - d) / 10
 }
 
+// Whether the value ends at a place that is not behind its end.
+fn ends(value: &[u8], at: usize) -> bool
+    requires { ⌜ at ≤ seek 10 10 (now value) ⌝ }
+    ensures { λ r. ⌜ r ≡ eqb at (seek 10 10 (now (value .entry))) ⌝ }
+{
+    if value.len() <= at {
+        return true;
+    }
+    value[at] == b'\n'
+}
+
 // The digits of the part that begins at `from`, up to its mark or the end.
 fn digits_at(value: &[u8], from: usize, high: u64) -> Part
-    ensures { λ r. ⌜ r .number ≡ digits high 0 (partBytes (now (value .entry)) from) ⌝ }
-    ensures { λ r. ⌜ ((n : ℕ) → r .number ≡ Value n → r .end ≡ from + seek 58 44 (drop from (now (value .entry)))) ⌝ }
+    requires { ⌜ from ≤ seek 10 10 (now value) ⌝ }
+    ensures { λ r. ⌜ r .number ≡ digits high 0 (partBytes (before 10 (now (value .entry))) from) ⌝ }
+    ensures { λ r. ⌜ ((n : ℕ) → r .number ≡ Value n → r .end ≡ from + seek 58 44 (drop from (before 10 (now (value .entry))))) ⌝ }
 {
     let mut n: u64 = 0;
     let mut i = from;
@@ -230,6 +268,9 @@ fn digits_at(value: &[u8], from: usize, high: u64) -> Part
         let x = value[i];
         if x < b'0' {
             if x == b',' {
+                return part_read(n, i);
+            }
+            if x == b'\n' {
                 return part_read(n, i);
             }
             return part_refused();
@@ -252,8 +293,9 @@ fn digits_at(value: &[u8], from: usize, high: u64) -> Part
 
 // The decimal number of the part that begins at `from`: from low to high, with no leading zero.
 fn part_at(value: &[u8], from: usize, low: u64, high: u64) -> Part
-    ensures { λ r. ⌜ r .number ≡ numberIn low high (partBytes (now (value .entry)) from) ⌝ }
-    ensures { λ r. ⌜ ((n : ℕ) → r .number ≡ Value n → r .end ≡ from + seek 58 44 (drop from (now (value .entry)))) ⌝ }
+    requires { ⌜ from ≤ seek 10 10 (now value) ⌝ }
+    ensures { λ r. ⌜ r .number ≡ numberIn low high (partBytes (before 10 (now (value .entry))) from) ⌝ }
+    ensures { λ r. ⌜ ((n : ℕ) → r .number ≡ Value n → r .end ≡ from + seek 58 44 (drop from (before 10 (now (value .entry))))) ⌝ }
 {
     let d = digits_at(value, from, high);
     let number = d.number;
@@ -280,6 +322,25 @@ fn element(number: &[u64], at: usize) -> u64
 {
     if at < number.len() {
         return number[at];
+    }
+    0
+}
+
+// Bound p of a row, 0 past the last. The index is a literal in each case, so that the bounds are read where they stand.
+fn bound(bounds: [u64; 4], p: usize) -> u64
+    ensures { λ r. ⌜ r ≡ getD bounds p 0 ⌝ }
+{
+    if p == 0 {
+        return bounds[0];
+    }
+    if p == 1 {
+        return bounds[1];
+    }
+    if p == 2 {
+        return bounds[2];
+    }
+    if p == 3 {
+        return bounds[3];
     }
     0
 }
@@ -316,7 +377,7 @@ fn store(number: &mut [u64], at: usize, n: u64)
 // The numbers of a value: a group's numbers are joined by ':', groups by ','.
 fn numbers(value: &[u8], row: Row, number: &mut [u64]) -> Head
     requires { ⌜ now number ≡ replicate 24 0 ⌝ }
-    ensures { λ r. ⌜ Held r (now (number .exit)) (Rattle.text.specs.Rows.numbers (row .low) (row .high) (row .parts) (row .most) 0 (now (value .entry)) (noLine 0)) ⌝ }
+    ensures { λ r. ⌜ Held r (now (number .exit)) (seek 10 10 (now (value .entry))) (Rattle.text.specs.Rows.numbers (row .low) (row .high) (row .parts) (row .most) 0 (before 10 (now (value .entry))) (noLine 0)) ⌝ }
 {
     let low = row.low;
     let high = row.high;
@@ -326,31 +387,48 @@ fn numbers(value: &[u8], row: Row, number: &mut [u64]) -> Head
     let mut from = 0;
     let mut p = 0;
     while 0 < left {
-        let part = part_at(value, from, element(&low, p), element(&high, p));
+        let part = part_at(value, from, bound(low, p), bound(high, p));
         let e = part.end;
         let read = part.number;
         let Number::Value(n) = read else {
-            return Head { code: 2, count: 0 };
+            return Head {
+                code: 2,
+                count: 0,
+                end: 0,
+            };
         };
         store(number, count, n);
         count += 1;
-        if value.len() <= e {
+        if ends(value, e) {
             if p + 1 == parts {
                 return Head {
                     code: 0,
                     count: count,
+                    end: e,
                 };
             }
-            return Head { code: 2, count: 0 };
+            return Head {
+                code: 2,
+                count: 0,
+                end: 0,
+            };
         }
         if value[e] != mark_due(parts, p) {
-            return Head { code: 2, count: 0 };
+            return Head {
+                code: 2,
+                count: 0,
+                end: 0,
+            };
         }
         p = part_next(parts, p);
         from = e + 1;
         left -= 1;
     }
-    Head { code: 2, count: 0 }
+    Head {
+        code: 2,
+        count: 0,
+        end: 0,
+    }
 }
 
 // Whether the first numbers of the pairs rise and the second never fall.
@@ -381,20 +459,37 @@ fn rising(number: &[u64], count: usize) -> bool
 // A value by its row, its numbers stored in a list of 24 zeros.
 pub fn value_into(value: &[u8], row: Row, number: &mut [u64]) -> Head
     requires { ⌜ now number ≡ replicate 24 0 ⌝ }
-    ensures { λ r. ⌜ Held r (now (number .exit)) (valueOf row (now (value .entry))) ⌝ }
+    ensures { λ r. ⌜ Held r (now (number .exit)) (seek 10 10 (now (value .entry))) (valueOf row (before 10 (now (value .entry)))) ⌝ }
 {
     if row.parts == 0 {
         let word = row.word;
-        if word_is(value, word) {
-            return Head { code: 0, count: 0 };
+        let e = find(value, 0, b'\n', b'\n');
+        if word_is(&value[0..e], word) {
+            return Head {
+                code: 0,
+                count: 0,
+                end: e,
+            };
         }
-        return Head { code: 2, count: 0 };
+        return Head {
+            code: 2,
+            count: 0,
+            end: 0,
+        };
     }
-    if value.len() == 0 {
+    if ends(value, 0) {
         if row.blank == 1 {
-            return Head { code: 0, count: 0 };
+            return Head {
+                code: 0,
+                count: 0,
+                end: 0,
+            };
         }
-        return Head { code: 2, count: 0 };
+        return Head {
+            code: 2,
+            count: 0,
+            end: 0,
+        };
     }
     let h = numbers(value, row, number);
     if h.code != 0 {
@@ -405,14 +500,18 @@ pub fn value_into(value: &[u8], row: Row, number: &mut [u64]) -> Head
         if rising(number, count) {
             return h;
         }
-        return Head { code: 3, count: 0 };
+        return Head {
+            code: 3,
+            count: 0,
+            end: 0,
+        };
     }
     h
 }
 
 // A value by its row.
 pub fn read_value(value: &[u8], row: Row) -> Line
-    ensures { λ r. ⌜ r ≡ valueOf row (now (value .entry)) ⌝ }
+    ensures { λ r. ⌜ r ≡ valueOf row (before 10 (now (value .entry))) ⌝ }
 {
     let mut number = [0u64; 24];
     let h = value_into(value, row, &mut number);

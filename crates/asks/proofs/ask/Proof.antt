@@ -7,7 +7,9 @@ use native.Mathlib.Omega.{arith}
 use Rattle.asks.proofs.Parts.{no-line-end, other-key, bad-value, good-value}
 use Rattle.asks.specs.declared.Asking.{Asking}
 use Rattle.text.specs.Rows.{valueOf}
-use Rattle.text.specs.Text.{valuePart}
+use Rattle.text.specs.Text.{before, valuePart}
+use Rattle.text.proofs.Ended.{line-value}
+use mathlib.Core.List.{List}
 use Rattle.text.specs.declared.Line.{Line}
 use Rattle.text.specs.declared.Row.{Row}
 use mathlib.Core.Path.{_≡_, ap, sym, _∙_}
@@ -60,6 +62,19 @@ row-of-requires c κs = search needs
 read-value-requires : tie.Need-read-value-requires
 read-value-requires c κs = search needs
 
+-- what is read of the value is that of the line
+value-is : (c : tie.After-read-value) →
+    let g = c .before .before .before .before .before .before .before .before .before .args in
+    let line = take (c .before .before .before .before .before .before .before .find .result - g .at) (drop (g .at) (g .text .now)) in
+    c .read-value .result ≡ valueOf (rowOf (kindOf line)) (valuePart line)
+value-is c =
+    let g = c .before .before .before .before .before .before .before .before .before .args in
+    let line = take (c .before .before .before .before .before .before .before .find .result - g .at) (drop (g .at) (g .text .now)) in
+    c .read-value .ensures
+    ∙ (ap (λ (r : Row). valueOf r (before 10 (c .before .before .value-of .result .now))) (c .before .row-of .ensures ∙ ap rowOf (c .before .before .before .before .kind-of .ensures))
+    ∙ (ap (λ (l : List ℕ). valueOf (rowOf (kindOf line)) (before 10 l)) (c .before .before .value-of .ensures)
+    ∙ ap (valueOf (rowOf (kindOf line))) (line-value (g .text .now) (g .at) (c .before .before .before .before .before .before .before .find .result) (c .before .before .before .before .before .before .before .find .ensures))))
+
 nothing-asked-requires-3 : tie.Need-nothing-asked-requires-3
 nothing-asked-requires-3 c κs = search needs
 
@@ -70,7 +85,7 @@ returns-3 c =
     let f = c .before .before .before .before .before .before .before .before .before .before .find in
     let s : f .result < length t = omega (arith, c .before .before .before .before .before .before .before .before .before .if1 .left) in
     let known : kindOf (take (f .result - g .at) (drop (g .at) t)) ≡ 0 → ⊥ = λ z. c .before .before .before .before .before .before .if2 .left (c .before .before .before .before .before .before .before .kind-of .ensures ∙ z) in
-    let v : c .before .before .before .read-value .result ≡ valueOf (rowOf (kindOf (take (f .result - g .at) (drop (g .at) t)))) (valuePart (take (f .result - g .at) (drop (g .at) t))) = (c .before .before .before .read-value .ensures ∙ ap (λ (r : Row). valueOf r (c .before .before .before .before .before .value-of .result .now)) (c .before .before .before .before .row-of .ensures ∙ ap rowOf (c .before .before .before .before .before .before .before .kind-of .ensures))) ∙ ap (valueOf (rowOf (kindOf (take (f .result - g .at) (drop (g .at) t))))) (c .before .before .before .before .before .value-of .ensures) in
+    let v = value-is (c .before .before .before) in
     (c .nothing-asked3 .ensures ∙ bad-value t (g .at) (f .result) (f .ensures) s known (λ z. c .before .if3 .taken (ap (λ (l : Line). l .code) v ∙ z)), λ z. absurd (let n : _≡_ {A = ℕ} 2 0 = ap (λ (x : Asking). x .refusal) (sym (c .nothing-asked3 .ensures)) ∙ z in omega arith))
 
 asking-of-requires : tie.Need-asking-of-requires
@@ -83,7 +98,7 @@ returns-4 c =
     let f = c .before .before .before .before .before .before .before .before .before .before .before .find in
     let s : f .result < length t = omega (arith, c .before .before .before .before .before .before .before .before .before .before .if1 .left) in
     let known : kindOf (take (f .result - g .at) (drop (g .at) t)) ≡ 0 → ⊥ = λ z. c .before .before .before .before .before .before .before .if2 .left (c .before .before .before .before .before .before .before .before .kind-of .ensures ∙ z) in
-    let v : c .before .before .before .before .read-value .result ≡ valueOf (rowOf (kindOf (take (f .result - g .at) (drop (g .at) t)))) (valuePart (take (f .result - g .at) (drop (g .at) t))) = (c .before .before .before .before .read-value .ensures ∙ ap (λ (r : Row). valueOf r (c .before .before .before .before .before .before .value-of .result .now)) (c .before .before .before .before .before .row-of .ensures ∙ ap rowOf (c .before .before .before .before .before .before .before .before .kind-of .ensures))) ∙ ap (valueOf (rowOf (kindOf (take (f .result - g .at) (drop (g .at) t))))) (c .before .before .before .before .before .before .value-of .ensures) in
+    let v = value-is (c .before .before .before .before) in
     let k = c .before .before .before .before .before .before .before .before .kind-of in
     let r = c .before .before .before .before .read-value .result in
     (((c .asking-of .ensures .0 ∙ ap (λ (n : ℕ). askingOf t n (r .number) (f .result)) (k .ensures)) ∙ ap (λ (l : Line). askingOf t (kindOf (take (f .result - g .at) (drop (g .at) t))) (l .number) (f .result)) v) ∙ good-value t (g .at) (f .result) (f .ensures) s known (ap (λ (l : Line). l .code) (sym v) ∙ c .before .before .if3 .left), λ z. omega (arith, c .asking-of .ensures .1, f .ensures))

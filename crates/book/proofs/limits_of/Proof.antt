@@ -1,60 +1,77 @@
--- After k turns the entries of the first k places are the sheet's.
+-- The array is filled from the front, a place a turn.
 -- Assumes nothing.
-use mathlib.Core.Path.{_≡_, refl, ap, _∙_}
-use mathlib.Core.Bool.{Bool, cond}
-use Prim.Native.Nat.{_-_, _/_, _%_, _≤_}
+use mathlib.Core.Path.{_≡_, refl, ap, sym, _∙_}
+use mathlib.Core.Bool.{Bool}
+use mathlib.Core.List.{List}
+use Prim.Native.Nat.{ℕ, _-_, _%_, _≤_}
 use native.Mathlib.Omega.{arith}
-use lib.Dec.{eqb}
-use lib.ListN.{getD}
-use Rattle.sheet.specs.Ranges.{unitAt, offerAt}
+use lib.ListN.{length, take, length-set, getD}
+use Rattle.finite.specs.Finite.{tabulate}
+use Rattle.finite.proofs.Tables.{getD-tabulate, filled-next, filled}
+use Rattle.energy.specs.declared.HubKwh.{HubKwh}
+use Rattle.units.specs.Units.{memberAt}
+use Rattle.offer.specs.declared.Offer.{Offer}
+use Rattle.offer.specs.Offer.{pastOffer}
 use Rattle.state.specs.Book.{noKwh}
 use Rattle.state.specs.Ranges.{limitOf}
-use Rattle.book.proofs.Limits.{Tabled, tabled-next}
 use borrow.Author.Needs.{needs}
 use Rattle.book.proofs.limits_of.Statement.{statement}
 use Rattle.book.proofs.limits_of.Tie as tie
 
+abbrev limitBy : ℕ → List Offer → ℕ → HubKwh
+limitBy units offers j = limitOf (memberAt units (j % 8)) (getD offers j pastOffer)
+
 abbrev Inv-loop : tie.InvT-loop
-Inv-loop sheet units limits₀ k₀ limits k = (units ≡ sheet .units) × (k ≤ 8) × Tabled sheet k limits
+Inv-loop units offers limits₀ j₀ limits j = (j ≤ 192) × (length limits ≡ 192) × (take j limits ≡ tabulate j (limitBy units offers))
 
 abbrev μ-loop : tie.MeasureT-loop
-μ-loop sheet units limits₀ k₀ limits k = 8 - k
+μ-loop units offers limits₀ j₀ limits j = 192 - j
 
 loop-holds : tie.Need-loop-holds Inv-loop μ-loop
-loop-holds c = (refl, omega arith, record { entry = λ j b m. absurd (omega (arith, m)) })
+unfolding tabulate
+loop-holds c = (omega arith, refl, refl)
 
-mul-u : tie.Need-mul-u Inv-loop μ-loop
-mul-u c = search needs
+mul-o : tie.Need-mul-o Inv-loop μ-loop
+mul-o c = search needs
 
-element-copy-out-u : tie.Need-element-copy-out-u Inv-loop μ-loop
-element-copy-out-u c = search needs
+array-copy-out-o : tie.Need-array-copy-out-o Inv-loop μ-loop
+array-copy-out-o c = search needs
 
 member-at-requires : tie.Need-member-at-requires Inv-loop μ-loop
 member-at-requires c κs = search needs
 
-with-limits-requires : tie.Need-with-limits-requires Inv-loop μ-loop
-with-limits-requires c κs = omega arith
+limit-of-requires : tie.Need-limit-of-requires Inv-loop μ-loop
+limit-of-requires c κs = search needs
 
-add-k : tie.Need-add-k Inv-loop μ-loop
-add-k c = search needs
+mul-limits : tie.Need-mul-limits Inv-loop μ-loop
+mul-limits c = search needs
+
+array-set-from-limits : tie.Need-array-set-from-limits Inv-loop μ-loop
+array-set-from-limits c = search needs
+
+add-j : tie.Need-add-j Inv-loop μ-loop
+add-j c = search needs
 
 loop-less : tie.Need-loop-less Inv-loop μ-loop
 loop-less c = search needs
 
 loop-again : tie.Need-loop-again Inv-loop μ-loop
 loop-again c =
-    let s = c .before .before .before .before .before .args .t1 in
-    let l = c .before .before .before .before .loop in (
-      refl,
+    let l = c .before .before .before .before .loop in
+    let a = c .before .before .before .before .before .args in (
       omega arith,
-      tabled-next s (l .k) (l .limits) (c .with-limits .result) (l .inv .2)
-          (λ j b. c .with-limits .ensures j b ∙ ap (λ (m : Bool). cond (eqb (j % 8) (l .k)) (limitOf m (offerAt (unitAt (s .unit) (l .k)) (j / 8))) (getD (l .limits) j noKwh)) (c .before .member-at .ensures)),
+      simp length-set (l .inv .1),
+      filled-next (limitBy (a .units) (a .t2)) (l .limits) (l .j) _ (omega (arith, l .inv .1)) (l .inv .2)
+          (c .limit-of .ensures ∙ ap (λ (m : Bool). limitOf m (getD (a .t2) (l .j) pastOffer)) (c .before .member-at .ensures)),
     )
 
 returns : tie.Need-returns Inv-loop μ-loop
 returns c =
     let l = c .before .loop in
-    λ j b. l .inv .2 .entry j b (omega arith)
+    let f = limitBy (c .before .before .args .units) (c .before .before .args .t2) in
+    let all : l .j ≡ 192 = omega (arith, l .inv .0) in
+    let is = filled f (l .limits) 192 (omega (arith, l .inv .1)) (ap (λ (n : ℕ). take n (l .limits)) (sym all) ∙ (l .inv .2 ∙ ap (λ (n : ℕ). tabulate n f) all)) in λ j b.
+    ap (λ (x : List HubKwh). getD x j noKwh) is ∙ getD-tabulate 192 f j noKwh b
 
 pub limits-of-spec : {M : Type 1} → statement M
 limits-of-spec =
@@ -63,11 +80,13 @@ limits-of-spec =
     Inv-loop
     μ-loop
     loop-holds
-    mul-u
-    element-copy-out-u
+    mul-o
+    array-copy-out-o
     member-at-requires
-    with-limits-requires
-    add-k
+    limit-of-requires
+    mul-limits
+    array-set-from-limits
+    add-j
     loop-less
     loop-again
     returns)

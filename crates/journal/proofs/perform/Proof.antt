@@ -1,7 +1,7 @@
 -- `journal::perform` meets its contract: a walk of its MIR, by hand, without branch. It knows of `scan`, `decide`, `append` and `outcome_of` only that each meets its contract.
 -- For `scan` the slice is lent again and comes back; to `append` it is given for good. Assumes nothing.
 use mathlib.Core.Path.{_≡_, refl, sym, ap, subst}
-use Prim.Native.Nat.{ℕ, _<_, _-_, _^_}
+use Prim.Native.Nat.{ℕ, _<_, _^_}
 use mathlib.Core.Bool.{Bool}
 use mathlib.Core.List.{[], _∷_, List}
 use lib.Dec.{T as Holds, lit<}
@@ -26,6 +26,7 @@ use types.Tokens.{lft-new, lft-end}
 use sound.WpLaws.{FmC, fmOf, WpFn-mono}
 use denote.RattleType.{owns}
 use denote.Memory.{pointee}
+use denote.Array.{Array, array-makes}
 use denote.Laws.{Is, shows}
 use denote.Plain.{uint-makes, uint-vals, uint-tells, bool-makes}
 use denote.Builtin.{usize, unit, bool}
@@ -55,8 +56,9 @@ use Rattle.ledger.proofs.Places.{decided-fits}
 use Rattle.journal.specs.Journal.{scannedIn, posted}
 use Rattle.journal.proofs.Again.{LentAgain, lends-again, comes-back}
 use Rattle.journal.proofs.Posted.{decidedBy, performed-is}
-use Rattle.journal.proofs.Typed.{typed-scanned, typed-sheet, typed-book, typed-request, typed-decision, typed-outcome}
+use Rattle.journal.proofs.Typed.{rows-val, rows-are, typed-scanned, typed-sheet, typed-book, typed-request, typed-decision, typed-outcome}
 use Rattle.postings.proofs.Posting as T
+use Rattle.postings.proofs.Posting.Laws as T′
 use Rattle.ledger.proofs.Answer as N
 use Rattle.postings.proofs.Plan as P
 use Rattle.postings.proofs.Plan.Laws as P′
@@ -130,8 +132,8 @@ tyO = spell body.table (pointee (O.the-row .written))
 here-outcome : (v : Val) → Holds (hasTy O′.mir v) × WT v → Holds (hasTy tyO v) × WT v
 here-outcome v h = h
 
-abbrev tyP : Ty
-tyP = spell body.table (pointee (P.the-row .written))
+abbrev tyRows : Ty
+tyRows = spell body.table (pointee (Array T.the-row 40 .written))
 
 abbrev tyA : Ty
 tyA = spell body.table (pointee (N.the-row .written))
@@ -139,7 +141,7 @@ tyA = spell body.table (pointee (N.the-row .written))
 eqC : tyStruct (112 ∷ 111 ∷ 115 ∷ 116 ∷ 105 ∷ 110 ∷ 103 ∷ 115 ∷ 58 ∷ 58 ∷ 83 ∷ 99 ∷ 97 ∷ 110 ∷ 110 ∷ 101 ∷ 100 ∷ []) (tcons tyBool (tcons (tyInt w64) tnil)) ≡ tyC
 eqC = refl
 
-eqS : tyStruct (108 ∷ 101 ∷ 100 ∷ 103 ∷ 101 ∷ 114 ∷ 58 ∷ 58 ∷ 68 ∷ 101 ∷ 99 ∷ 105 ∷ 115 ∷ 105 ∷ 111 ∷ 110 ∷ []) (tcons tyP (tcons (tyInt w64) (tcons (tyInt w64) (tcons tyA (tcons (tyInt w64) (tcons (tyInt w64) (tcons tyB tnil))))))) ≡ tyS
+eqS : tyStruct (108 ∷ 101 ∷ 100 ∷ 103 ∷ 101 ∷ 114 ∷ 58 ∷ 58 ∷ 68 ∷ 101 ∷ 99 ∷ 105 ∷ 115 ∷ 105 ∷ 111 ∷ 110 ∷ []) (tcons (tyStruct (112 ∷ 111 ∷ 115 ∷ 116 ∷ 105 ∷ 110 ∷ 103 ∷ 115 ∷ 58 ∷ 58 ∷ 80 ∷ 108 ∷ 97 ∷ 110 ∷ []) (tcons tyRows tnil)) (tcons (tyInt w64) (tcons (tyInt w64) (tcons tyA (tcons (tyInt w64) (tcons (tyInt w64) (tcons tyB tnil))))))) ≡ tyS
 eqS = refl
 
 abbrev stayed : Stays (perform.ended .signature .params) (perform.ended .kept)
@@ -228,22 +230,22 @@ module _ {M : Type 1} (𝓤 : URA M) (H : Heap 𝓤) (A : Atoms 𝓤) (W : Given
     n-fits : D .n < 2 ^ 64
     n-fits = LL.owed S.the-type S′.the-laws D _ is .1 .1 .0 .1
 
-    plan-is : Is P.the-row (D .plan) (P′.lowered (D .plan) ∷ [])
-    plan-is = subst (Is P.the-row (D .plan)) (P′.lowers .val-is (D .plan) _ (LL.owed S.the-type S′.the-laws D _ is .0)) (LL.owed S.the-type S′.the-laws D _ is .0)
+    rows-is : Is (Array T.the-row 40) (D .plan .row) (rows-val (D .plan .row) ∷ [])
+    rows-is = rows-are 40 (D .plan .row) _ (LL.owed P.the-type P′.the-laws (D .plan) _ (LL.owed S.the-type S′.the-laws D _ is .0) .0)
 
     abbrev to-append : Append 𝓤 H A mem run .Ghost
-    to-append = (((κ, tt), (q, tt), tt, (list-ref, (D .at, (D .plan, (D .n, tt)))), (list-val ∷ [], (vint w64 (D .at) ∷ [], (P′.lowered (D .plan) ∷ [], (vint w64 (D .n) ∷ [], tt))))), tt)
+    to-append = (((κ, tt), (q, tt), tt, (list-ref, (D .at, (D .plan .row, (D .n, tt)))), (list-val ∷ [], (vint w64 (D .at) ∷ [], (rows-val (D .plan .row) ∷ [], (vint w64 (D .n) ∷ [], tt))))), tt)
 
     goes-append : ent 𝓤 (sep 𝓤 (A .lft κ q) (sem 𝓤 H A (MutSlice (named 0) κ T.the-row .own list-ref (list-val ∷ [])))) (Append 𝓤 H A mem run .pre to-append)
     goes-append =
         qed W (‵ (flft κ q) ∷ lent κ γ ys ∷ []) ∵ says ! (decided-fits sheet book request count len (seen .good)) $ nothing ! $ move ! (1 ∷ 0 ∷ []) $ join ! $ frame ! $
-        nothing ! $ owned ! usize (Is usize) (uint-makes 𝓤 H A W w64) (D .n) _ (refl, n-fits) $ fjoin ! $ owned ! P.the-row (Is P.the-row) (LL.makes P.the-type P′.the-plain 𝓤 H A) (D .plan) _ plan-is $ fjoin ! $
+        nothing ! $ owned ! usize (Is usize) (uint-makes 𝓤 H A W w64) (D .n) _ (refl, n-fits) $ fjoin ! $ owned ! (Array T.the-row 40) (Is (Array T.the-row 40)) (array-makes 𝓤 H A W T.the-row (LL.makes T.the-type T′.the-plain 𝓤 H A) 40) (D .plan .row) _ rows-is $ fjoin ! $
         owned ! usize (Is usize) (uint-makes 𝓤 H A W w64) (D .at) _ (refl, at-fits) $ fjoin ! $ move ! (1 ∷ 0 ∷ []) $ fjoin ! $ done !
 
     goes-out : ent 𝓤 (sem 𝓤 H A ftrue) (Out 𝓤 H A mem run .pre to-out)
     goes-out = qed W (‵ ftrue ∷ []) ∵ nothing ! $ owned ! S.the-row (Is S.the-row) (LL.makes S.the-type S′.the-plain 𝓤 H A) D _ is $ fjoin ! $ move ! (1 ∷ 0 ∷ []) $ join ! $ frame ! $ done !
 
-  exits : (v : Val) (zs : List Posting) → zs ≡ posted ys (D .at) (D .plan) (D .n) → length zs ≡ len
+  exits : (v : Val) (zs : List Posting) → zs ≡ posted ys (D .at) (D .plan .row) (D .n) → length zs ≡ len
       → ent 𝓤 (⋆ 𝓤 H A ((‵ (flft κ q) ⊛ ‵ ftrue) ∷ ‵ (finally T.the-row γ zs) ∷ ‵ (O.the-row .own (outcomeOf D) (v ∷ [])) ∷ [])) (Post v)
   exits v zs e same =
       qed W ((‵ (flft κ q) ⊛ ‵ ftrue) ∷ ‵ (finally T.the-row γ zs) ∷ ‵ (O.the-row .own (outcomeOf D) (v ∷ [])) ∷ []) ∵
@@ -252,7 +254,7 @@ module _ {M : Type 1} (𝓤 : URA M) (H : Heap 𝓤) (A : Atoms 𝓤) (W : Given
 
   module _ (C₀ : Calls 𝓤 H) (Λ : Loops 𝓤 H) (fm : FmC 𝓤 H (W .laws) C₀) (known-scan : Triple 𝓤 (C₀ #journal·scan) (Scan 𝓤 H A mem run)) (known-decide : Triple 𝓤 (C₀ #book·decide) (Decide 𝓤 H A mem run)) (known-append : Triple 𝓤 (C₀ #journal·append) (Append 𝓤 H A mem run)) (known-out : Triple 𝓤 (C₀ #book·outcome-of) (Out 𝓤 H A mem run)) where
     -- the types of the locals: of those that are used whole nothing is known
-    module _ (tO tZ tB tK tP : Ty) (nC nS : Sym) (cs ss : Tys) (l₀ l₁ l₂ l₃ l₄ l₅ l₆ l₇ l₈ l₉ l₁₀ l₁₁ l₁₂ l₁₃ : ℕ) where
+    module _ (tO tZ tB tK tRows : Ty) (nC nP nS : Sym) (cs ps ss : Tys) (l₀ l₁ l₂ l₃ l₄ l₅ l₆ l₇ l₈ l₉ l₁₀ l₁₁ l₁₂ l₁₃ : ℕ) where
       abbrev word : Ty
       word = tyInt w64
 
@@ -269,7 +271,7 @@ module _ {M : Type 1} (𝓤 : URA M) (H : Heap 𝓤) (A : Atoms 𝓤) (W : Given
       tC = tyStruct nC (tcons tyBool cs)
 
       abbrev tS : Ty
-      tS = tyStruct nS (tcons tP (tcons word (tcons word ss)))
+      tS = tyStruct nS (tcons (tyStruct nP (tcons tRows ps)) (tcons word (tcons word ss)))
 
       abbrev En : Ty → Ty → Env 𝓤 H
       En tC tS = (tO, l₀) ∷ (slice, l₁) ∷ (word, l₂) ∷ (tZ, l₃) ∷ (tB, l₄) ∷ (tK, l₅) ∷ (tC, l₆) ∷ (tS, l₇) ∷ (ref, l₈) ∷ (lent-ty, l₉) ∷ (word, l₁₀) ∷ (tyUnit, l₁₁) ∷ (ref, l₁₂) ∷ (lent-ty, l₁₃) ∷ []
@@ -310,10 +312,10 @@ module _ {M : Type 1} (𝓤 : URA M) (H : Heap 𝓤) (A : Atoms 𝓤) (W : Given
           assigns ! (addr ! (from ! (fld ! refl (hop ! (look-in ! 30 (sub ! 0 refl (whole !))) (stop !))))) (from ! (stop !)) (init ! 8 refl (tt, tt)) $
           assigns ! (agg ! (and-then ! (load ! (from ! (stop !)) (look ! 8 refl)) (and-then ! (load ! (from ! (fld ! refl (stop !))) (look-in ! 30 (sub ! 1 refl (whole !)))) (no-more !)))) (from ! (stop !)) (init ! 6 refl (tt, (tt, (record { fits = list-room .0 }, tt)))) $
           move ! (1 ∷ 0 ∷ []) $ use2 W (raw (Append 𝓤 H A mem run .pre (to-append is))) (goes-append is) $
-          calls-at ! fm (Append 𝓤 H A mem run) known-append (to-append is) (and-then ! (load ! (from ! (stop !)) (look ! 5 refl)) (and-then ! (load ! (from ! (fld ! refl (stop !))) (look-in ! 17 (sub ! 1 refl (whole !)))) (and-then ! (load ! (from ! (fld ! refl (stop !))) (look-in ! 17 (sub ! 0 refl (whole !)))) (and-then ! (load ! (from ! (fld ! refl (stop !))) (look-in ! 17 (sub ! 2 refl (whole !)))) (no-more !))))) (λ u.
-          use1 W (later (some (λ (r₃ : Unit {0}). ((‵ (flft κ q) ⊛ ‵ ftrue) ⊛ ‵ (unit .own r₃ (u ∷ []))) ⊛ raw (ensured 𝓤 H A append.ended (append.clauses 𝓤 H A mem run) (κ, tt) (list-ref, (D .at, (D .plan, (D .n, tt)))) tt r₃)))) (id⊢ 𝓤 _) $ await ! tt $ pick ! (λ r₃.
-          split ! $ move ! (1 ∷ []) $ use1 W (some (λ (zs′ : List Posting × (Unit {0} × (Unit {0} × (Unit {0} × Unit {0})))). ‵ (lasts append.ended (κ, tt) (list-ref, (D .at, (D .plan, (D .n, tt)))) zs′) ⊛ raw (fact 𝓤 (zs′ .0 ≡ posted ys (D .at) (D .plan) (D .n))))) (id⊢ 𝓤 _) $ pick ! (λ zs′.
-          split ! $ move ! (1 ∷ []) $ heard ! (zs′ .0 ≡ posted ys (D .at) (D .plan) (D .n)) (λ e₃. fsplit ! $ fsplit ! $ move ! (1 ∷ []) $ feqL ! (λ same₂.
+          calls-at ! fm (Append 𝓤 H A mem run) known-append (to-append is) (and-then ! (load ! (from ! (stop !)) (look ! 5 refl)) (and-then ! (load ! (from ! (fld ! refl (stop !))) (look-in ! 17 (sub ! 1 refl (whole !)))) (and-then ! (load ! (from ! (fld ! refl (fld ! refl (stop !)))) (look-in ! 17 (sub ! 0 refl (sub ! 0 refl (whole !))))) (and-then ! (load ! (from ! (fld ! refl (stop !))) (look-in ! 17 (sub ! 2 refl (whole !)))) (no-more !))))) (λ u.
+          use1 W (later (some (λ (r₃ : Unit {0}). ((‵ (flft κ q) ⊛ ‵ ftrue) ⊛ ‵ (unit .own r₃ (u ∷ []))) ⊛ raw (ensured 𝓤 H A append.ended (append.clauses 𝓤 H A mem run) (κ, tt) (list-ref, (D .at, (D .plan .row, (D .n, tt)))) tt r₃)))) (id⊢ 𝓤 _) $ await ! tt $ pick ! (λ r₃.
+          split ! $ move ! (1 ∷ []) $ use1 W (some (λ (zs′ : List Posting × (Unit {0} × (Unit {0} × (Unit {0} × Unit {0})))). ‵ (lasts append.ended (κ, tt) (list-ref, (D .at, (D .plan .row, (D .n, tt)))) zs′) ⊛ raw (fact 𝓤 (zs′ .0 ≡ posted ys (D .at) (D .plan .row) (D .n))))) (id⊢ 𝓤 _) $ pick ! (λ zs′.
+          split ! $ move ! (1 ∷ []) $ heard ! (zs′ .0 ≡ posted ys (D .at) (D .plan .row) (D .n)) (λ e₃. fsplit ! $ fsplit ! $ move ! (1 ∷ []) $ feqL ! (λ same₂.
           move ! (2 ∷ []) $ split ! $ move ! (1 ∷ []) $ peeks ! unit (Is unit) (shows 𝓤 H A unit) r₃ (u ∷ []) (λ is-u.
           land ! (from ! (stop !)) (init ! 12 refl (subst (λ (v : Val). Holds (hasTy tyUnit v) × WT v) (sym (ap only is-u)) (tt, tt))) $
           -- `outcome_of`
@@ -327,11 +329,11 @@ module _ {M : Type 1} (𝓤 : URA M) (H : Heap 𝓤) (A : Atoms 𝓤) (W : Given
           move ! (35 ∷ 36 ∷ []) $ free1 ! $ move ! (33 ∷ 34 ∷ []) $ free1 ! $ move ! (31 ∷ 32 ∷ []) $ free1 ! $ move ! (29 ∷ 30 ∷ []) $ free1 ! $ move ! (27 ∷ 28 ∷ []) $ free1 ! $ move ! (25 ∷ 26 ∷ []) $ free1 ! $ move ! (23 ∷ 24 ∷ []) $ free1 ! $ move ! (21 ∷ 22 ∷ []) $ free1 ! $ move ! (19 ∷ 20 ∷ []) $ free1 ! $ move ! (17 ∷ 18 ∷ []) $ free1 ! $ move ! (15 ∷ 16 ∷ []) $ free1 ! $ move ! (13 ∷ 14 ∷ []) $ free1 ! $ move ! (11 ∷ 12 ∷ []) $ free1 ! $ move ! (9 ∷ 10 ∷ []) $ free1 ! $ free0 ! $
           keep ! (2 ∷ 3 ∷ 0 ∷ []) $ by ! (exits v₂ (zs′ .0) e₃ same₂)))))))))))))))))))))))
 
-    from-body′ : (tO tZ tB tK tC′ tS′ tP : Ty) (nC nS : Sym) (cs ss : Tys) (eC : tyStruct nC (tcons tyBool cs) ≡ tC′) (eS : tyStruct nS (tcons tP (tcons (tyInt w64) (tcons (tyInt w64) ss))) ≡ tS′) (l₀ l₁ l₂ l₃ l₄ l₅ l₆ l₇ l₈ l₉ l₁₀ l₁₁ l₁₂ l₁₃ : ℕ)
-        → Rest tO tZ tB tK tP nC nS cs ss l₀ l₁ l₂ l₃ l₄ l₅ l₆ l₇ l₈ l₉ l₁₀ l₁₁ l₁₂ l₁₃ tC′ tS′
-    from-body′ tO tZ tB tK tC′ tS′ tP nC nS cs ss eC eS l₀ l₁ l₂ l₃ l₄ l₅ l₆ l₇ l₈ l₉ l₁₀ l₁₁ l₁₂ l₁₃ =
-        subst (λ (x : Ty). Rest tO tZ tB tK tP nC nS cs ss l₀ l₁ l₂ l₃ l₄ l₅ l₆ l₇ l₈ l₉ l₁₀ l₁₁ l₁₂ l₁₃ x tS′) eC
-        (subst (λ (y : Ty). Rest tO tZ tB tK tP nC nS cs ss l₀ l₁ l₂ l₃ l₄ l₅ l₆ l₇ l₈ l₉ l₁₀ l₁₁ l₁₂ l₁₃ (tC tO tZ tB tK tP nC nS cs ss l₀ l₁ l₂ l₃ l₄ l₅ l₆ l₇ l₈ l₉ l₁₀ l₁₁ l₁₂ l₁₃) y) eS (from-body tO tZ tB tK tP nC nS cs ss l₀ l₁ l₂ l₃ l₄ l₅ l₆ l₇ l₈ l₉ l₁₀ l₁₁ l₁₂ l₁₃))
+    from-body′ : (tO tZ tB tK tC′ tS′ tRows : Ty) (nC nP nS : Sym) (cs ps ss : Tys) (eC : tyStruct nC (tcons tyBool cs) ≡ tC′) (eS : tyStruct nS (tcons (tyStruct nP (tcons tRows ps)) (tcons (tyInt w64) (tcons (tyInt w64) ss))) ≡ tS′) (l₀ l₁ l₂ l₃ l₄ l₅ l₆ l₇ l₈ l₉ l₁₀ l₁₁ l₁₂ l₁₃ : ℕ)
+        → Rest tO tZ tB tK tRows nC nP nS cs ps ss l₀ l₁ l₂ l₃ l₄ l₅ l₆ l₇ l₈ l₉ l₁₀ l₁₁ l₁₂ l₁₃ tC′ tS′
+    from-body′ tO tZ tB tK tC′ tS′ tRows nC nP nS cs ps ss eC eS l₀ l₁ l₂ l₃ l₄ l₅ l₆ l₇ l₈ l₉ l₁₀ l₁₁ l₁₂ l₁₃ =
+        subst (λ (x : Ty). Rest tO tZ tB tK tRows nC nP nS cs ps ss l₀ l₁ l₂ l₃ l₄ l₅ l₆ l₇ l₈ l₉ l₁₀ l₁₁ l₁₂ l₁₃ x tS′) eC
+        (subst (λ (y : Ty). Rest tO tZ tB tK tRows nC nP nS cs ps ss l₀ l₁ l₂ l₃ l₄ l₅ l₆ l₇ l₈ l₉ l₁₀ l₁₁ l₁₂ l₁₃ (tC tO tZ tB tK tRows nC nP nS cs ps ss l₀ l₁ l₂ l₃ l₄ l₅ l₆ l₇ l₈ l₉ l₁₀ l₁₁ l₁₂ l₁₃) y) eS (from-body tO tZ tB tK tRows nC nP nS cs ps ss l₀ l₁ l₂ l₃ l₄ l₅ l₆ l₇ l₈ l₉ l₁₀ l₁₁ l₁₂ l₁₃))
 
     seen-has : (v : Val) → Is C.the-row seen (v ∷ []) → Holds (hasTy tyC v) × WT v
     seen-has v i = here-scanned v (typed-scanned 𝓤 H A W seen v i)
@@ -346,7 +348,7 @@ module _ {M : Type 1} (𝓤 : URA M) (H : Heap 𝓤) (A : Atoms 𝓤) (W : Given
     walk =
         qed W ((‵ (flft κ q) ⊛ ‵ ftrue) ∷ ‵ (owns (MutSlice (named 0) κ T.the-row ∷ usize ∷ Z.the-row ∷ B.the-row ∷ K.the-row ∷ []) a values) ∷ []) ∵ enter ! C₀ Λ code.function (list-val ∷ vint w64 count ∷ sheet-val ∷ book-val ∷ request-val ∷ []) _ $
         alloc1 ! (λ l₀. alloc1 ! (λ l₁. alloc1 ! (λ l₂. alloc1 ! (λ l₃. alloc1 ! (λ l₄. alloc1 ! (λ l₅. alloc1 ! (λ l₆. alloc1 ! (λ l₇. alloc1 ! (λ l₈. alloc1 ! (λ l₉. alloc1 ! (λ l₁₀. alloc1 ! (λ l₁₁. alloc1 ! (λ l₁₂. alloc1 ! (λ l₁₃. alloc0 ! $ params1 ! $
-        pass1 ! (init ! 24 refl (tt, (tt, (record { fits = list-room .0 }, tt)))) $ pass1 ! (init ! 22 refl (tt, record { fits = count-fits })) $ pass1 ! (init ! 20 refl (typed-sheet 𝓤 H A W sheet sheet-val sheet-is)) $ pass1 ! (init ! 18 refl (typed-book 𝓤 H A W book book-val book-is)) $ pass1 ! (init ! 16 refl (typed-request 𝓤 H A W request request-val request-is)) $ pass0 ! $ from-body′ tyO tyZ tyB tyK tyC tyS _ _ _ _ _ eqC eqS l₀ l₁ l₂ l₃ l₄ l₅ l₆ l₇ l₈ l₉ l₁₀ l₁₁ l₁₂ l₁₃ seen-has D-has O-has))))))))))))))
+        pass1 ! (init ! 24 refl (tt, (tt, (record { fits = list-room .0 }, tt)))) $ pass1 ! (init ! 22 refl (tt, record { fits = count-fits })) $ pass1 ! (init ! 20 refl (typed-sheet 𝓤 H A W sheet sheet-val sheet-is)) $ pass1 ! (init ! 18 refl (typed-book 𝓤 H A W book book-val book-is)) $ pass1 ! (init ! 16 refl (typed-request 𝓤 H A W request request-val request-is)) $ pass0 ! $ from-body′ tyO tyZ tyB tyK tyC tyS _ _ _ _ _ _ _ eqC eqS l₀ l₁ l₂ l₃ l₄ l₅ l₆ l₇ l₈ l₉ l₁₀ l₁₁ l₁₂ l₁₃ seen-has D-has O-has))))))))))))))
 
 module _ {M : Type 1} (𝓤 : URA M) (H : Heap 𝓤) (A : Atoms 𝓤) (W : Given 𝓤 H A) (mem : Memory → SProp 𝓤) (run : Routine → Fun 𝓤) where
   perform-walks : (C₀ : Calls 𝓤 H) (Λ : Loops 𝓤 H) → FmC 𝓤 H (W .laws) C₀ → Triple 𝓤 (C₀ #journal·scan) (Scan 𝓤 H A mem run) → Triple 𝓤 (C₀ #book·decide) (Decide 𝓤 H A mem run) → Triple 𝓤 (C₀ #journal·append) (Append 𝓤 H A mem run) → Triple 𝓤 (C₀ #book·outcome-of) (Out 𝓤 H A mem run)

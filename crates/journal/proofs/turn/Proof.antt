@@ -1,5 +1,5 @@
--- `journal::turn` meets its contract: a walk of its MIR, by hand, without branch: the answers are given to `go_on` and the list to `append`, each for good.
--- It knows of `go_on`, `append` and `stand_of` only that each meets its contract. Assumes nothing.
+-- `journal::turn` meets its contract: a walk of its MIR, by hand, without branch: the answers are given to `go_on` and the list to `append_all`, each for good.
+-- It knows of `go_on`, `append_all` and `stand_of` only that each meets its contract. Assumes nothing.
 use mathlib.Core.Path.{_≡_, refl, sym, ap, subst}
 use Prim.Native.Nat.{ℕ, _<_, _≤_, _-_, _^_}
 use mathlib.Core.List.{[], _∷_, List}
@@ -24,6 +24,7 @@ use types.Part.{agg, whole, sub, look-in}
 use sound.WpLaws.{FmC, fmOf, WpFn-mono}
 use denote.RattleType.{owns}
 use denote.Memory.{pointee}
+use denote.Array.{Array, array-makes}
 use denote.Laws.{Is, shows}
 use denote.Plain.{uint-makes, uint-vals, uint-tells}
 use denote.Builtin.{u8, u64, usize, unit}
@@ -47,10 +48,9 @@ use Rattle.journal.specs.declared.Step.{Step}
 use Rattle.journal.specs.Journal.{posted}
 use Rattle.journal.specs.Stands.{Due}
 use Rattle.journal.proofs.Stood.{Goes, Leaves, stood}
-use Rattle.journal.proofs.Typed.{typed-sheet, typed-stand, typed-step}
+use Rattle.journal.proofs.Typed.{rows-val, rows-are, typed-sheet, typed-stand, typed-step}
 use Rattle.postings.proofs.Posting as T
-use Rattle.postings.proofs.Plan as P
-use Rattle.postings.proofs.Plan.Laws as P′
+use Rattle.postings.proofs.Posting.Laws as T′
 use Rattle.sheet.proofs.Sheet as Z
 use Rattle.sheet.proofs.Sheet.Laws as Z′
 use Rattle.journal.proofs.Stand as G
@@ -61,10 +61,10 @@ use Rattle.journal.proofs.go_on as go
 use Rattle.journal.proofs.go_on.Symbol as go-def
 use Rattle.journal.proofs.go_on.Symbol.{name as #journal·go-on}
 use Rattle.journal.proofs.go_on.Met as go-thm
-use Rattle.journal.proofs.append as append
-use Rattle.journal.proofs.append.Symbol as append-def
-use Rattle.journal.proofs.append.Symbol.{name as #journal·append}
-use Rattle.journal.proofs.append.Met as append-thm
+use Rattle.journal.proofs.append_all as append
+use Rattle.journal.proofs.append_all.Symbol as append-def
+use Rattle.journal.proofs.append_all.Symbol.{name as #journal·append-all}
+use Rattle.journal.proofs.append_all.Met as append-thm
 use Rattle.journal.proofs.stand_of as out
 use Rattle.journal.proofs.stand_of.Symbol as out-def
 use Rattle.journal.proofs.stand_of.Symbol.{name as #journal·stand-of}
@@ -90,10 +90,10 @@ tyE = spell body.table (pointee (E.the-row .written))
 here-step : (v : Val) → Holds (hasTy E′.mir v) × WT v → Holds (hasTy tyE v) × WT v
 here-step v h = h
 
-abbrev tyP : Ty
-tyP = spell body.table (pointee (P.the-row .written))
+abbrev tyRows : Ty
+tyRows = spell body.table (pointee (Array T.the-row 640 .written))
 
-eqE : tyStruct (106 ∷ 111 ∷ 117 ∷ 114 ∷ 110 ∷ 97 ∷ 108 ∷ 58 ∷ 58 ∷ 83 ∷ 116 ∷ 101 ∷ 112 ∷ []) (tcons tyP (tcons (tyInt w64) (tcons (tyInt w64) (tcons tyG tnil)))) ≡ tyE
+eqE : tyStruct (106 ∷ 111 ∷ 117 ∷ 114 ∷ 110 ∷ 97 ∷ 108 ∷ 58 ∷ 58 ∷ 83 ∷ 116 ∷ 101 ∷ 112 ∷ []) (tcons tyRows (tcons (tyInt w64) (tcons (tyInt w64) (tcons tyG tnil)))) ≡ tyE
 eqE = refl
 
 abbrev stayed : Stays (this.ended .signature .params) (this.ended .kept)
@@ -156,7 +156,7 @@ module _ {M : Type 1} (𝓤 : URA M) (H : Heap 𝓤) (A : Atoms 𝓤) (W : Given
   GoesTo d ws = Goes sheet (calls .now) (text .now) len ns ws stand d
 
   abbrev Fits : Step → Type 0
-  Fits d = (d .n ≤ 40) × (d .n ≤ len - d .at)
+  Fits d = (d .n ≤ 640) × (d .n ≤ len - d .at)
 
   abbrev Nearer : Step → Type 0
   Nearer d = (stand .next < d .stand .next) × (d .stand .next ≤ n)
@@ -178,16 +178,16 @@ module _ {M : Type 1} (𝓤 : URA M) (H : Heap 𝓤) (A : Atoms 𝓤) (W : Given
     rows-fit : d .n < 2 ^ 64
     rows-fit = LL.owed E.the-type E′.the-laws d _ is .1 .1 .0 .1
 
-    plan-is : Is P.the-row (d .plan) (P′.lowered (d .plan) ∷ [])
-    plan-is = subst (Is P.the-row (d .plan)) (P′.lowers .val-is (d .plan) _ (LL.owed E.the-type E′.the-laws d _ is .0)) (LL.owed E.the-type E′.the-laws d _ is .0)
+    rows-is : Is (Array T.the-row 640) (d .row) (rows-val (d .row) ∷ [])
+    rows-is = rows-are 640 (d .row) _ (LL.owed E.the-type E′.the-laws d _ is .0)
 
     abbrev to-append : Append 𝓤 H A mem run .Ghost
-    to-append = (((κ, tt), (q, tt), tt, (list-ref, (d .at, (d .plan, (d .n, tt)))), (list-val ∷ [], (vint w64 (d .at) ∷ [], (P′.lowered (d .plan) ∷ [], (vint w64 (d .n) ∷ [], tt))))), tt)
+    to-append = (((κ, tt), (q, tt), tt, (list-ref, (d .at, (d .row, (d .n, tt)))), (list-val ∷ [], (vint w64 (d .at) ∷ [], (rows-val (d .row) ∷ [], (vint w64 (d .n) ∷ [], tt))))), tt)
 
     goes-append : Fits d → ent 𝓤 (sep 𝓤 (A .lft κ q) (sem 𝓤 H A (MutSlice (named 0) κ T.the-row .own list-ref (list-val ∷ [])))) (Append 𝓤 H A mem run .pre to-append)
     goes-append fits =
         qed W (‵ (flft κ q) ∷ ‵ (MutSlice (named 0) κ T.the-row .own list-ref (list-val ∷ [])) ∷ []) ∵ says ! fits $ nothing ! $ move ! (1 ∷ 0 ∷ []) $ join ! $ frame ! $
-        nothing ! $ owned ! usize (Is usize) (uint-makes 𝓤 H A W w64) (d .n) _ (refl, rows-fit) $ fjoin ! $ owned ! P.the-row (Is P.the-row) (LL.makes P.the-type P′.the-plain 𝓤 H A) (d .plan) _ plan-is $ fjoin ! $
+        nothing ! $ owned ! usize (Is usize) (uint-makes 𝓤 H A W w64) (d .n) _ (refl, rows-fit) $ fjoin ! $ owned ! (Array T.the-row 640) (Is (Array T.the-row 640)) (array-makes 𝓤 H A W T.the-row (LL.makes T.the-type T′.the-plain 𝓤 H A) 640) (d .row) _ rows-is $ fjoin ! $
         owned ! usize (Is usize) (uint-makes 𝓤 H A W w64) (d .at) _ (refl, at-fits) $ fjoin ! $ move ! (1 ∷ 0 ∷ []) $ fjoin ! $ done !
 
     abbrev to-out : Out 𝓤 H A mem run .Ghost
@@ -203,9 +203,9 @@ module _ {M : Type 1} (𝓤 : URA M) (H : Heap 𝓤) (A : Atoms 𝓤) (W : Given
       suffices ! _ (ends-at 𝓤 H A this.ended stayed (this.clauses 𝓤 H A mem run) W (((κ, (κ₁, (κ₂, (κ₃, tt)))), (q, (q₁, (q₂, (q₃, tt)))), tt, a, values), tt) v r (zs, (tt, (tt, (tt, (ws, (tt, (tt, tt))))))) (same, (tt, (tt, (tt, (same₃, (tt, (tt, tt)))))))) $ says ! e $
       split ! $ move ! (0 ∷ 2 ∷ []) $ join ! $ frame ! $ keep ! (1 ∷ 2 ∷ 3 ∷ 4 ∷ 5 ∷ []) $ nothing ! $ owned ! G.the-row (Is G.the-row) (LL.makes G.the-type G′.the-plain 𝓤 H A) stand _ stand-is $ fjoin ! $ owned ! usize (Is usize) (uint-makes 𝓤 H A W w64) n _ (refl, n-fits) $ fjoin ! $ move ! (4 ∷ 0 ∷ []) $ fjoin ! $ move ! (3 ∷ 0 ∷ []) $ fjoin ! $ move ! (2 ∷ 0 ∷ []) $ fjoin ! $ owned ! Z.the-row (Is Z.the-row) (LL.makes Z.the-type Z′.the-plain 𝓤 H A) sheet _ sheet-is $ fjoin ! $ move ! (1 ∷ 0 ∷ []) $ fjoin ! $ move ! (0 ∷ 1 ∷ []) $ done !
 
-  module _ (C₀ : Calls 𝓤 H) (Λ : Loops 𝓤 H) (fm : FmC 𝓤 H (W .laws) C₀) (known-go : Triple 𝓤 (C₀ #journal·go-on) (Go 𝓤 H A mem run)) (known-append : Triple 𝓤 (C₀ #journal·append) (Append 𝓤 H A mem run)) (known-out : Triple 𝓤 (C₀ #journal·stand-of) (Out 𝓤 H A mem run)) where
+  module _ (C₀ : Calls 𝓤 H) (Λ : Loops 𝓤 H) (fm : FmC 𝓤 H (W .laws) C₀) (known-go : Triple 𝓤 (C₀ #journal·go-on) (Go 𝓤 H A mem run)) (known-append : Triple 𝓤 (C₀ #journal·append-all) (Append 𝓤 H A mem run)) (known-out : Triple 𝓤 (C₀ #journal·stand-of) (Out 𝓤 H A mem run)) where
     -- the types of the locals: of those that are used whole nothing is known
-    module _ (tZ tG tP : Ty) (nE : Sym) (es : Tys) (l₀ l₁ l₂ l₃ l₄ l₅ l₆ l₇ l₈ l₉ l₁₀ l₁₁ l₁₂ l₁₃ l₁₄ : ℕ) where
+    module _ (tZ tG tRows : Ty) (nE : Sym) (es : Tys) (l₀ l₁ l₂ l₃ l₄ l₅ l₆ l₇ l₈ l₉ l₁₀ l₁₁ l₁₂ l₁₃ l₁₄ : ℕ) where
       abbrev word : Ty
       word = tyInt w64
 
@@ -234,7 +234,7 @@ module _ {M : Type 1} (𝓤 : URA M) (H : Heap 𝓤) (A : Atoms 𝓤) (W : Given
       text-ty = sliceTy (tyRef (named 2) imm (pointee (u8 .written)))
 
       abbrev tE : Ty
-      tE = tyStruct nE (tcons tP (tcons word (tcons word es)))
+      tE = tyStruct nE (tcons tRows (tcons word (tcons word es)))
 
       abbrev En : Ty → Env 𝓤 H
       En tE = (tG, l₀) ∷ (slice, l₁) ∷ (tZ, l₂) ∷ (calls-ty, l₃) ∷ (text-ty, l₄) ∷ (slice₃, l₅) ∷ (word, l₆) ∷ (tG, l₇) ∷ (tE, l₈) ∷ (ref₃, l₉) ∷ (lent-ty₃, l₁₀) ∷ (word, l₁₁) ∷ (tyUnit, l₁₂) ∷ (ref, l₁₃) ∷ (lent-ty, l₁₄) ∷ []
@@ -263,14 +263,14 @@ module _ {M : Type 1} (𝓤 : URA M) (H : Heap 𝓤) (A : Atoms 𝓤) (W : Given
           land ! (from ! (stop !)) (init ! 21 refl (has-step d v is₁)) $ drop ! $
           rewrite ! 20 (λ (u : Val). ‵ (fat fullShare tE l₈ 0 u)) (ap only (E′.lowers .val-is d _ is₁)) refl $
           let is = subst (Is E.the-row d) (E′.lowers .val-is d _ is₁) is₁ in
-          -- `append`: the list is given on
+          -- `append_all`: the list is given on
           assigns ! (addr ! (from ! (fld ! refl (hop ! (look-in ! 34 (sub ! 0 refl (whole !))) (stop !))))) (from ! (stop !)) (init ! 10 refl (tt, tt)) $
           assigns ! (agg ! (and-then ! (load ! (from ! (stop !)) (look ! 10 refl)) (and-then ! (load ! (from ! (fld ! refl (stop !))) (look-in ! 34 (sub ! 1 refl (whole !)))) (no-more !)))) (from ! (stop !)) (init ! 8 refl (tt, (tt, (record { fits = list-room .0 }, tt)))) $
           move ! (3 ∷ 7 ∷ []) $ use2 W (raw (Append 𝓤 H A mem run .pre (to-append d is))) (goes-append d is fits) $
           calls-at ! fm (Append 𝓤 H A mem run) known-append (to-append d is) (and-then ! (load ! (from ! (stop !)) (look ! 7 refl)) (and-then ! (load ! (from ! (fld ! refl (stop !))) (look-in ! 19 (sub ! 1 refl (whole !)))) (and-then ! (load ! (from ! (fld ! refl (stop !))) (look-in ! 19 (sub ! 0 refl (whole !)))) (and-then ! (load ! (from ! (fld ! refl (stop !))) (look-in ! 19 (sub ! 2 refl (whole !)))) (no-more !))))) (λ u.
-          use1 W (later (some (λ (r₂ : Unit {0}). ((‵ (flft κ q) ⊛ ‵ ftrue) ⊛ ‵ (unit .own r₂ (u ∷ []))) ⊛ raw (ensured 𝓤 H A append.ended (append.clauses 𝓤 H A mem run) (κ, tt) (list-ref, (d .at, (d .plan, (d .n, tt)))) tt r₂)))) (id⊢ 𝓤 _) $ await ! tt $ pick ! (λ r₂.
-          split ! $ move ! (1 ∷ []) $ use1 W (some (λ (zs : List Posting × (Unit {0} × (Unit {0} × (Unit {0} × Unit {0})))). ‵ (lasts append.ended (κ, tt) (list-ref, (d .at, (d .plan, (d .n, tt)))) zs) ⊛ raw (fact 𝓤 (zs .0 ≡ posted ys (d .at) (d .plan) (d .n))))) (id⊢ 𝓤 _) $ pick ! (λ zs.
-          split ! $ move ! (1 ∷ []) $ heard ! (zs .0 ≡ posted ys (d .at) (d .plan) (d .n)) (λ e. fsplit ! $ fsplit ! $ move ! (1 ∷ []) $ feqL ! (λ same.
+          use1 W (later (some (λ (r₂ : Unit {0}). ((‵ (flft κ q) ⊛ ‵ ftrue) ⊛ ‵ (unit .own r₂ (u ∷ []))) ⊛ raw (ensured 𝓤 H A append.ended (append.clauses 𝓤 H A mem run) (κ, tt) (list-ref, (d .at, (d .row, (d .n, tt)))) tt r₂)))) (id⊢ 𝓤 _) $ await ! tt $ pick ! (λ r₂.
+          split ! $ move ! (1 ∷ []) $ use1 W (some (λ (zs : List Posting × (Unit {0} × (Unit {0} × (Unit {0} × Unit {0})))). ‵ (lasts append.ended (κ, tt) (list-ref, (d .at, (d .row, (d .n, tt)))) zs) ⊛ raw (fact 𝓤 (zs .0 ≡ posted ys (d .at) (d .row) (d .n))))) (id⊢ 𝓤 _) $ pick ! (λ zs.
+          split ! $ move ! (1 ∷ []) $ heard ! (zs .0 ≡ posted ys (d .at) (d .row) (d .n)) (λ e. fsplit ! $ fsplit ! $ move ! (1 ∷ []) $ feqL ! (λ same.
           move ! (2 ∷ []) $ split ! $ move ! (1 ∷ []) $ peeks ! unit (Is unit) (shows 𝓤 H A unit) r₂ (u ∷ []) (λ is-u.
           land ! (from ! (stop !)) (init ! 14 refl (subst (λ (v : Val). Holds (hasTy tyUnit v) × WT v) (sym (ap only is-u)) (tt, tt))) $ drop ! $
           -- `stand_of`
@@ -284,8 +284,8 @@ module _ {M : Type 1} (𝓤 : URA M) (H : Heap 𝓤) (A : Atoms 𝓤) (W : Given
           move ! (38 ∷ 39 ∷ []) $ free1 ! $ move ! (36 ∷ 37 ∷ []) $ free1 ! $ move ! (34 ∷ 35 ∷ []) $ free1 ! $ move ! (32 ∷ 33 ∷ []) $ free1 ! $ move ! (30 ∷ 31 ∷ []) $ free1 ! $ move ! (28 ∷ 29 ∷ []) $ free1 ! $ move ! (26 ∷ 27 ∷ []) $ free1 ! $ move ! (24 ∷ 25 ∷ []) $ free1 ! $ move ! (22 ∷ 23 ∷ []) $ free1 ! $ move ! (20 ∷ 21 ∷ []) $ free1 ! $ move ! (18 ∷ 19 ∷ []) $ free1 ! $ move ! (16 ∷ 17 ∷ []) $ free1 ! $ move ! (14 ∷ 15 ∷ []) $ free1 ! $ move ! (12 ∷ 13 ∷ []) $ free1 ! $ move ! (10 ∷ 11 ∷ []) $ free1 ! $ free0 ! $
           keep ! (1 ∷ 4 ∷ 2 ∷ 8 ∷ 7 ∷ 5 ∷ 0 ∷ []) $ by ! (exits (d .stand) v₂ (zs .0) (ws .1 .1 .1 .0) (stood sheet (calls .now) (text .now) ys (zs .0) ns (ws .1 .1 .1 .0) stand d goes e, nearer) same same₃)))))))))))))))))))
 
-    from-body′ : (tZ tG tP tE′ : Ty) (nE : Sym) (es : Tys) → tyStruct nE (tcons tP (tcons (tyInt w64) (tcons (tyInt w64) es))) ≡ tE′ → (l₀ l₁ l₂ l₃ l₄ l₅ l₆ l₇ l₈ l₉ l₁₀ l₁₁ l₁₂ l₁₃ l₁₄ : ℕ) → Rest tZ tG tP nE es l₀ l₁ l₂ l₃ l₄ l₅ l₆ l₇ l₈ l₉ l₁₀ l₁₁ l₁₂ l₁₃ l₁₄ tE′
-    from-body′ tZ tG tP tE′ nE es e l₀ l₁ l₂ l₃ l₄ l₅ l₆ l₇ l₈ l₉ l₁₀ l₁₁ l₁₂ l₁₃ l₁₄ = subst (Rest tZ tG tP nE es l₀ l₁ l₂ l₃ l₄ l₅ l₆ l₇ l₈ l₉ l₁₀ l₁₁ l₁₂ l₁₃ l₁₄) e (from-body tZ tG tP nE es l₀ l₁ l₂ l₃ l₄ l₅ l₆ l₇ l₈ l₉ l₁₀ l₁₁ l₁₂ l₁₃ l₁₄)
+    from-body′ : (tZ tG tRows tE′ : Ty) (nE : Sym) (es : Tys) → tyStruct nE (tcons tRows (tcons (tyInt w64) (tcons (tyInt w64) es))) ≡ tE′ → (l₀ l₁ l₂ l₃ l₄ l₅ l₆ l₇ l₈ l₉ l₁₀ l₁₁ l₁₂ l₁₃ l₁₄ : ℕ) → Rest tZ tG tRows nE es l₀ l₁ l₂ l₃ l₄ l₅ l₆ l₇ l₈ l₉ l₁₀ l₁₁ l₁₂ l₁₃ l₁₄ tE′
+    from-body′ tZ tG tRows tE′ nE es e l₀ l₁ l₂ l₃ l₄ l₅ l₆ l₇ l₈ l₉ l₁₀ l₁₁ l₁₂ l₁₃ l₁₄ = subst (Rest tZ tG tRows nE es l₀ l₁ l₂ l₃ l₄ l₅ l₆ l₇ l₈ l₉ l₁₀ l₁₁ l₁₂ l₁₃ l₁₄) e (from-body tZ tG tRows nE es l₀ l₁ l₂ l₃ l₄ l₅ l₆ l₇ l₈ l₉ l₁₀ l₁₁ l₁₂ l₁₃ l₁₄)
 
     step-has : (d : Step) (v : Val) → Is E.the-row d (v ∷ []) → Holds (hasTy tyE v) × WT v
     step-has d v i = here-step v (typed-step 𝓤 H A W d v i)
@@ -297,16 +297,16 @@ module _ {M : Type 1} (𝓤 : URA M) (H : Heap 𝓤) (A : Atoms 𝓤) (W : Given
     walk =
         qed W ((‵ (flft κ q) ⊛ (‵ (flft κ₁ q₁) ⊛ (‵ (flft κ₂ q₂) ⊛ (‵ (flft κ₃ q₃) ⊛ ‵ ftrue)))) ∷ ‵ (owns (MutSlice (named 0) κ T.the-row ∷ Z.the-row ∷ ShrSlice (named 1) κ₁ u64 ∷ ShrSlice (named 2) κ₂ u8 ∷ MutSlice (named 3) κ₃ u64 ∷ usize ∷ G.the-row ∷ []) a values) ∷ []) ∵ enter ! C₀ Λ code.function (list-val ∷ sheet-val ∷ calls-val ∷ text-val ∷ answers-val ∷ vint w64 n ∷ stand-val ∷ []) _ $
         alloc1 ! (λ l₀. alloc1 ! (λ l₁. alloc1 ! (λ l₂. alloc1 ! (λ l₃. alloc1 ! (λ l₄. alloc1 ! (λ l₅. alloc1 ! (λ l₆. alloc1 ! (λ l₇. alloc1 ! (λ l₈. alloc1 ! (λ l₉. alloc1 ! (λ l₁₀. alloc1 ! (λ l₁₁. alloc1 ! (λ l₁₂. alloc1 ! (λ l₁₃. alloc1 ! (λ l₁₄. alloc0 ! $ params1 ! $
-        pass1 ! (init ! 26 refl (tt, (tt, (record { fits = list-room .0 }, tt)))) $ pass1 ! (init ! 24 refl (typed-sheet 𝓤 H A W sheet sheet-val sheet-is)) $ pass1 ! (init ! 22 refl (tt, (tt, (record { fits = calls-room .0 }, tt)))) $ pass1 ! (init ! 20 refl (tt, (tt, (record { fits = text-room .0 }, tt)))) $ pass1 ! (init ! 18 refl (tt, (tt, (record { fits = answers-room .0 }, tt)))) $ pass1 ! (init ! 16 refl (tt, record { fits = n-fits })) $ pass1 ! (init ! 14 refl (typed-stand 𝓤 H A W stand stand-val stand-is)) $ pass0 ! $ from-body′ tyZ tyG tyP tyE _ _ eqE l₀ l₁ l₂ l₃ l₄ l₅ l₆ l₇ l₈ l₉ l₁₀ l₁₁ l₁₂ l₁₃ l₁₄ step-has stand-has)))))))))))))))
+        pass1 ! (init ! 26 refl (tt, (tt, (record { fits = list-room .0 }, tt)))) $ pass1 ! (init ! 24 refl (typed-sheet 𝓤 H A W sheet sheet-val sheet-is)) $ pass1 ! (init ! 22 refl (tt, (tt, (record { fits = calls-room .0 }, tt)))) $ pass1 ! (init ! 20 refl (tt, (tt, (record { fits = text-room .0 }, tt)))) $ pass1 ! (init ! 18 refl (tt, (tt, (record { fits = answers-room .0 }, tt)))) $ pass1 ! (init ! 16 refl (tt, record { fits = n-fits })) $ pass1 ! (init ! 14 refl (typed-stand 𝓤 H A W stand stand-val stand-is)) $ pass0 ! $ from-body′ tyZ tyG tyRows tyE _ _ eqE l₀ l₁ l₂ l₃ l₄ l₅ l₆ l₇ l₈ l₉ l₁₀ l₁₁ l₁₂ l₁₃ l₁₄ step-has stand-has)))))))))))))))
 
 module _ {M : Type 1} (𝓤 : URA M) (H : Heap 𝓤) (A : Atoms 𝓤) (W : Given 𝓤 H A) (mem : Memory → SProp 𝓤) (run : Routine → Fun 𝓤) where
-  this-walks : (C₀ : Calls 𝓤 H) (Λ : Loops 𝓤 H) → FmC 𝓤 H (W .laws) C₀ → Triple 𝓤 (C₀ #journal·go-on) (Go 𝓤 H A mem run) → Triple 𝓤 (C₀ #journal·append) (Append 𝓤 H A mem run) → Triple 𝓤 (C₀ #journal·stand-of) (Out 𝓤 H A mem run) → Walks 𝓤 H A this.ended stayed (WpFn 𝓤 H C₀ Λ code.function) (this.clauses 𝓤 H A mem run)
+  this-walks : (C₀ : Calls 𝓤 H) (Λ : Loops 𝓤 H) → FmC 𝓤 H (W .laws) C₀ → Triple 𝓤 (C₀ #journal·go-on) (Go 𝓤 H A mem run) → Triple 𝓤 (C₀ #journal·append-all) (Append 𝓤 H A mem run) → Triple 𝓤 (C₀ #journal·stand-of) (Out 𝓤 H A mem run) → Walks 𝓤 H A this.ended stayed (WpFn 𝓤 H C₀ Λ code.function) (this.clauses 𝓤 H A mem run)
   this-walks C₀ Λ fm known-go known-append known-out = walked 𝓤 H A this.ended stayed (this.clauses 𝓤 H A mem run) (WpFn 𝓤 H C₀ Λ code.function)
       (λ κs. (slice-vals, ((λ d. Z′.lowered d ∷ []), (slice-vals, (slice-vals, (slice-vals, (uint-vals w64, ((λ d. G′.lowered d ∷ []), tt)))))))) (λ κs. (mut-slice-tells (named 0) (κs .0) T.the-row, (Z′.lowers .val-is, (shr-slice-tells (named 1) (κs .1 .0) u64, (shr-slice-tells (named 2) (κs .1 .1 .0) u8, (mut-slice-tells (named 3) (κs .1 .1 .1 .0) u64, (uint-tells w64, (G′.lowers .val-is, tt))))))))
       (λ κs qs bounds a _ are. needs 𝓤 (Due (a .1 .0) (a .1 .1 .0 .now) (a .1 .1 .1 .0 .now) (a .1 .1 .1 .1 .0 .now) (length (a .0 .now)) (a .1 .1 .1 .1 .1 .0) (a .1 .1 .1 .1 .1 .1 .0)) _ (λ due. walk 𝓤 H A W mem run (κs .0) (κs .1 .0) (κs .1 .1 .0) (κs .1 .1 .1 .0) (qs .0) (qs .1 .0) (qs .1 .1 .0) (qs .1 .1 .1 .0) (a .0 .ptr .0) (a .0 .ptr .1) (a .0 .name) (a .0 .now) (a .1 .0) (a .1 .1 .0) (a .1 .1 .1 .0)
       (a .1 .1 .1 .1 .0 .ptr .0) (a .1 .1 .1 .1 .0 .ptr .1) (a .1 .1 .1 .1 .0 .name) (a .1 .1 .1 .1 .0 .now) (a .1 .1 .1 .1 .1 .0) (a .1 .1 .1 .1 .1 .1 .0) due (are .0 .0 .1) (Z′.lowered (a .1 .0)) (are .1 .0) (are .1 .1 .0 .0 .1) (are .1 .1 .1 .0 .0 .1) (are .1 .1 .1 .1 .0 .0 .1) (are .1 .1 .1 .1 .1 .0 .1) (G′.lowered (a .1 .1 .1 .1 .1 .1 .0)) (are .1 .1 .1 .1 .1 .1 .0) C₀ Λ fm known-go known-append known-out))
 
-this-meets : {M : Type 1} (𝓤 : URA M) (H : Heap 𝓤) (A : Atoms 𝓤) → Given 𝓤 H A → (mem : Memory → SProp 𝓤) (run : Routine → Fun 𝓤) (𝓣 : Tables 𝓤 H) → Triple 𝓤 (𝓣 .C #journal·go-on) (Go 𝓤 H A mem run) → Triple 𝓤 (𝓣 .C #journal·append) (Append 𝓤 H A mem run) → Triple 𝓤 (𝓣 .C #journal·stand-of) (Out 𝓤 H A mem run)
+this-meets : {M : Type 1} (𝓤 : URA M) (H : Heap 𝓤) (A : Atoms 𝓤) → Given 𝓤 H A → (mem : Memory → SProp 𝓤) (run : Routine → Fun 𝓤) (𝓣 : Tables 𝓤 H) → Triple 𝓤 (𝓣 .C #journal·go-on) (Go 𝓤 H A mem run) → Triple 𝓤 (𝓣 .C #journal·append-all) (Append 𝓤 H A mem run) → Triple 𝓤 (𝓣 .C #journal·stand-of) (Out 𝓤 H A mem run)
     → Meets 𝓤 H A this.signature (WpFn 𝓤 H (𝓣 .C) (𝓣 .Λ) code.function) (this.spec 𝓤 H A mem run)
 this-meets 𝓤 H A W mem run 𝓣 known-go known-append known-out =
     walk-meets 𝓤 H A this.ended stayed W (goes-gave-slice 𝓤 H A W 4 0 tt (plain (λ _. T.the-row)), (goes-none 𝓤 H A W 4 (λ _. Z.the-row) yes (λ κs x f. refl), (goes-none-slice 𝓤 H A W 4 (1 ∷ []) tt (plain (λ _. u64)) yes, (goes-none-slice 𝓤 H A W 4 (2 ∷ []) tt (plain (λ _. u8)) yes, (goes-gave-slice 𝓤 H A W 4 3 tt (plain (λ _. u64)), (goes-none 𝓤 H A W 4 (λ _. usize) yes (λ κs x f. refl), (goes-none 𝓤 H A W 4 (λ _. G.the-row) yes (λ κs x f. refl), tt))))))) (this.clauses 𝓤 H A mem run)
@@ -319,5 +319,5 @@ turn-spec 𝓤 H 𝓜 𝓖 𝓡 =
     (tables 𝓤 H 𝓜 𝓡 code.env .C) (tables 𝓤 H 𝓜 𝓡 code.env .Λ) #journal·turn code.function (code.unfolded 𝓤 H 𝓜 𝓡)
     (this-meets 𝓤 H (𝓖 .A) (givenOf 𝓤 H 𝓜 𝓖) (𝓜 .mem) (𝓡 .run) (tablesOf 𝓤 H 𝓜 (tables 𝓤 H 𝓜 𝓡 code.env))
     (cited 𝓤 H (Go 𝓤 H (𝓖 .A) (𝓜 .mem) (𝓡 .run)) 𝓜 𝓡 code.env #journal·go-on go-def.routine code.calls-journal·go-on (go-thm.met 𝓤 H 𝓜 𝓖 𝓡))
-    (cited 𝓤 H (Append 𝓤 H (𝓖 .A) (𝓜 .mem) (𝓡 .run)) 𝓜 𝓡 code.env #journal·append append-def.routine code.calls-journal·append (append-thm.met 𝓤 H 𝓜 𝓖 𝓡))
+    (cited 𝓤 H (Append 𝓤 H (𝓖 .A) (𝓜 .mem) (𝓡 .run)) 𝓜 𝓡 code.env #journal·append-all append-def.routine code.calls-journal·append-all (append-thm.met 𝓤 H 𝓜 𝓖 𝓡))
     (cited 𝓤 H (Out 𝓤 H (𝓖 .A) (𝓜 .mem) (𝓡 .run)) 𝓜 𝓡 code.env #journal·stand-of out-def.routine code.calls-journal·stand-of (out-thm.met 𝓤 H 𝓜 𝓖 𝓡)))

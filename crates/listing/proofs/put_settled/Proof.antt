@@ -1,4 +1,4 @@
--- After h turns the lines of the first h hours are written.
+-- After e turns the lines of the first e entries are written.
 -- Assumes nothing.
 use Prim.Native.Nat.{ℕ, _+_, _*_, _≤_, _-_}
 use mathlib.Core.Path.{_≡_, ap, _∙_}
@@ -6,50 +6,68 @@ use native.Mathlib.Omega.{arith}
 use lib.ListN.{length}
 use Rattle.decimal.specs.Output.{Output, output, written}
 use Rattle.decimal.proofs.Laws.{length-written}
-use Rattle.state.specs.Sizes.{hours}
-use Rattle.listing.specs.Listing.{mostHour, joined, hourLines, settledLines}
+use Rattle.listing.specs.Listing.{mostLine, joined, entryLines}
 use Rattle.listing.proofs.Joined.{none-joined, next-joined}
+use Rattle.listing.proofs.Entries.{all-entries}
 use borrow.Author.Needs.{needs}
 use Rattle.listing.proofs.put_settled.Statement.{statement}
 use Rattle.listing.proofs.put_settled.Tie as tie
 
 abbrev Inv-loop : tie.InvT-loop
-Inv-loop out₀ at units book place₀ h₀ out place h = (h ≤ hours) × ((output out place ≡ written (output out₀ at) (joined h (hourLines units book))) × (place ≤ at + h * mostHour))
+Inv-loop out₀ at units book place₀ e₀ out place e = (e ≤ 192) × ((output out place ≡ written (output out₀ at) (joined e (entryLines units book))) × (place ≤ at + e * mostLine))
 
 abbrev μ-loop : tie.MeasureT-loop
-μ-loop out₀ at units book place₀ h₀ out place h = hours - h
+μ-loop out₀ at units book place₀ e₀ out place e = 192 - e
 
 loop-holds : tie.Need-loop-holds Inv-loop μ-loop
 loop-holds c = (omega arith, (none-joined _ _, omega arith))
 
-put-hour-requires : tie.Need-put-hour-requires Inv-loop μ-loop
-put-hour-requires c κs = search needs
+mul-mark : tie.Need-mul-mark Inv-loop μ-loop
+mul-mark c = search needs
 
-add-h : tie.Need-add-h Inv-loop μ-loop
-add-h c = omega (arith, c .before .before .before .before .loop-test .taken)
+element-copy-out-mark : tie.Need-element-copy-out-mark Inv-loop μ-loop
+element-copy-out-mark c = search needs
+
+mul-grains : tie.Need-mul-grains Inv-loop μ-loop
+mul-grains c = search needs
+
+element-copy-out-grains : tie.Need-element-copy-out-grains Inv-loop μ-loop
+element-copy-out-grains c = search needs
+
+mul-amounts : tie.Need-mul-amounts Inv-loop μ-loop
+mul-amounts c = search needs
+
+element-copy-out-amounts : tie.Need-element-copy-out-amounts Inv-loop μ-loop
+element-copy-out-amounts c = search needs
+
+put-entry-requires : tie.Need-put-entry-requires Inv-loop μ-loop
+put-entry-requires c κs = (omega arith, omega arith)
+
+add-e : tie.Need-add-e Inv-loop μ-loop
+add-e c = omega (arith, c .before .before .before .before .before .before .before .loop-test .taken)
 
 loop-less : tie.Need-loop-less Inv-loop μ-loop
-loop-less c = omega (arith, c .before .before .before .before .loop-test .taken)
+loop-less c = omega (arith, c .before .before .before .before .before .before .before .loop-test .taken)
 
 loop-again : tie.Need-loop-again Inv-loop μ-loop
 loop-again c =
-    let p = c .before .before .before .before .before in
-    let g = p .before .before .args in (
-      omega (arith, c .before .before .before .before .loop-test .taken),
-      (next-joined (p .loop .h) (hourLines (g .units) (g .book)) (output (g .out .now) (g .at)) (output (p .loop .out) (p .loop .place)) (p .loop .inv .1 .0) (c .before .before .put-hour .ensures .0), omega (arith, p .loop .inv .1 .1, c .before .before .put-hour .ensures .1)),
+    let l = c .before .before .before .before .before .before .before .before .loop in
+    let g = c .before .before .before .before .before .before .before .before .before .before .args in (
+      omega (arith, c .before .before .before .before .before .before .before .loop-test .taken),
+      (next-joined (l .e) (entryLines (g .units) (g .t4)) (output (g .out .now) (g .at)) (output (l .out) (l .place)) (l .inv .1 .0) (c .before .before .put-entry .ensures .0), omega (arith, l .inv .1 .1, c .before .before .put-entry .ensures .1)),
     )
 
 same-length : tie.Need-same-length Inv-loop μ-loop
 same-length c =
     let g = c .before .before .before .args in
-    ap (λ (x : Output). length (x .buffer)) (c .before .loop .inv .1 .0) ∙ length-written (output (g .out .now) (g .at)) (joined (c .before .loop .h) (hourLines (g .units) (g .book)))
+    ap (λ (x : Output). length (x .buffer)) (c .before .loop .inv .1 .0) ∙ length-written (output (g .out .now) (g .at)) (joined (c .before .loop .e) (entryLines (g .units) (g .t4)))
 
 returns : tie.Need-returns Inv-loop μ-loop
-unfolding settledLines
 returns c =
     let g = c .before .before .before .args in
-    let all : c .before .loop .h ≡ hours = omega (arith, c .loop-test .left) in (
-      c .before .loop .inv .1 .0 ∙ ap (λ (n : ℕ). written (output (g .out .now) (g .at)) (joined n (hourLines (g .units) (g .book)))) all,
+    let all : c .before .loop .e ≡ 192 = omega (arith, c .loop-test .left) in (
+      c .before .loop .inv .1 .0
+          ∙ (ap (λ (n : ℕ). written (output (g .out .now) (g .at)) (joined n (entryLines (g .units) (g .t4)))) all ∙ ap (written (output (g .out .now) (g .at))) (all-entries (g .units) (g .t4))),
       omega (arith, c .before .loop .inv .1 .1),
     )
 
@@ -60,8 +78,14 @@ put-settled-spec =
     Inv-loop
     μ-loop
     loop-holds
-    put-hour-requires
-    add-h
+    mul-mark
+    element-copy-out-mark
+    mul-grains
+    element-copy-out-grains
+    mul-amounts
+    element-copy-out-amounts
+    put-entry-requires
+    add-e
     loop-less
     loop-again
     same-length

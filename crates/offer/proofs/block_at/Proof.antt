@@ -27,9 +27,7 @@ returns : tie.Need-returns Inv-loop μ-loop
 returns c =
     let a = c .before .before .before .before .args in
     let e = ap (λ (g : HubGrains). g .0) (c .before .before .before .grains-of .ensures) in
-    let m = c .least .ensures in
-    committed-block (a .t1) (a .commitment) (a .i) (a .limit) (c .least .result)
-    (m .1 (a .i) (omega arith) (omega arith)) (m .0 .1) (omega (arith, m .0 .0))
+    committed-block (a .t1) (a .commitment) (a .i) (a .limit) (c .least .result) (omega arith) (omega arith) (omega arith)
 
 sub-last : tie.Need-sub-last Inv-loop μ-loop
 sub-last c = holds (c .before .before .before .args .t1) (c .before .before .before .pre .0) .least
@@ -59,12 +57,11 @@ returns-2 : tie.Need-returns-2 Inv-loop μ-loop
 returns-2 c =
     let a = c .before .before .before .before .before .before .before .before .before .before .before .args in
     let l = c .before .before .before .before .before .before .before .loop in
-    let m = c .least2 .ensures in
     let e = ap (λ (g : HubGrains). g .0) (c .before .before .before .before .before .before .before .before .before .before .grains-of .ensures) in
     let q = ap (λ (g : HubGrains). g .0) (c .before .before .before .before .grains-of2 .ensures) in
     step-block (a .t1) (a .commitment) (a .i) (a .limit) (l .s) (c .least2 .result) (omega (arith, c .before .before .before .before .before .before .before .before .if1 .left))
     (record { known = l .inv .0; rest = l .inv .1; ends = λ h. omega arith }) (omega arith)
-    (m .1 (a .i) (omega arith) (c .before .before .before .before .before .before .before .before .before .before .before .pre .2)) (m .0 .1) (omega (arith, m .0 .0))
+    (omega (arith, c .before .before .before .before .before .before .before .before .before .before .before .pre .2)) (omega arith) (omega arith)
 
 add-s : tie.Need-add-s Inv-loop μ-loop
 add-s c = search needs

@@ -1,62 +1,149 @@
--- The loop keeps that the cost so far is that of the grains before `at`; a block adds its grains at its price.
--- The cost up to a grain is at most 10^7 a grain, 10^18 in all, so nothing wraps.
+-- The loop keeps that the cost so far and that by the steps from s on are the whole: a turn adds the step's grains at its price, and in the
+-- last step all that are left. The whole is at most 10^7 a grain, 10^18 in all, so nothing wraps.
 -- Assumes nothing.
-use mathlib.Core.Path.{_≡_, ap}
-use Prim.Native.Nat.{_+_, _*_, _≤_, _-_}
+use mathlib.Core.Path.{_≡_, refl, ap, sym, _∙_}
+use Prim.Native.Nat.{ℕ, _+_, _*_, _≤_, _-_, max}
 use native.Mathlib.Omega.{arith}
+use Rattle.energy.specs.declared.HubGrains.{HubGrains}
+use Rattle.energy.specs.Energy.{grainsOf}
+use Rattle.offer.specs.Offer.{stepPrice}
+use Rattle.offer.specs.Modified.{costBetween}
+use Rattle.offer.proofs.Costs.{cost-between-le}
+use Rattle.offer.proofs.Steps.{holds}
+use Rattle.offer.proofs.Quick.{costOn, cost-steps, cost-next, cost-last}
 use borrow.Author.Needs.{needs}
-use Rattle.offer.specs.Modified.{costTo, costBetween}
-use Rattle.offer.proofs.Costs.{cost-block, cost-le}
 use Rattle.offer.proofs.cost_between.Statement.{statement}
 use Rattle.offer.proofs.cost_between.Tie as tie
 
 abbrev Inv-loop : tie.InvT-loop
-Inv-loop offer commitment from to cost₀ at₀ cost at =
-    (from ≤ at) × (at ≤ to) × (cost + costTo offer commitment from ≡ costTo offer commitment at)
+Inv-loop from to offer at₀ cost₀ last s₀ at cost s =
+    (s ≤ last)
+    × (cost + costOn offer s at to ≡ costOn offer 0 at₀ to)
+    × (costOn offer 0 at₀ to ≤ 1000000000000000000)
 
 abbrev μ-loop : tie.MeasureT-loop
-μ-loop offer commitment from to cost₀ at₀ cost at = to - at
+μ-loop from to offer at₀ cost₀ last s₀ at cost s = last - s
+
+-- the cost is that of the steps, from `from` or the commitment on, and bounded
+total : (c : tie.After-greatest Inv-loop μ-loop) → costBetween (c .before .before .args .t1) (c .before .before .args .commitment) (c .before .before .args .from) (c .before .before .args .to) ≡ costOn (c .before .before .args .t1) 0 (c .greatest .result) (c .before .before .args .to)
+total c =
+    let a = c .before .before .args in
+    let g = ap (λ (n : HubGrains). n .0) (c .before .grains-of .ensures) in
+    let e : max (a .from) (grainsOf (a .commitment) .0) ≡ c .greatest .result = omega arith in
+    cost-steps (a .t1) (a .commitment) (a .from) (a .to) (c .before .before .pre .2) ∙ ap (λ (n : ℕ). costOn (a .t1) 0 n (a .to)) e
+
+grains-of-requires : tie.Need-grains-of-requires Inv-loop μ-loop
+grains-of-requires c κs = search needs
+
+greatest-requires : tie.Need-greatest-requires Inv-loop μ-loop
+greatest-requires c κs = search needs
+
+sub-last : tie.Need-sub-last Inv-loop μ-loop
+sub-last c = holds (c .before .before .args .t1) (c .before .before .pre .0) .least
 
 loop-holds : tie.Need-loop-holds Inv-loop μ-loop
-loop-holds c = (omega arith, omega arith, omega arith)
+loop-holds c = (omega arith, omega arith, omega (arith, total c, cost-between-le (c .before .before .args .t1) (c .before .before .args .commitment) (c .before .before .pre .0) (c .before .before .args .from) (c .before .before .args .to) (omega arith)))
 
-block-at-requires : tie.Need-block-at-requires Inv-loop μ-loop
-block-at-requires c κs = search needs
+mul-quantity : tie.Need-mul-quantity Inv-loop μ-loop
+mul-quantity c = omega (arith, holds (c .before .before .before .before .args .t1) (c .before .before .before .before .pre .0) .most)
 
-sub-cost : tie.Need-sub-cost Inv-loop μ-loop
-sub-cost c = omega (arith, c .before .block-at .ensures .past)
+element-copy-out-quantity : tie.Need-element-copy-out-quantity Inv-loop μ-loop
+element-copy-out-quantity c = omega (arith, holds (c .before .before .before .before .args .t1) (c .before .before .before .before .pre .0) .most)
 
--- a turn adds the block's cost, and the cost up to the block's end is bounded
-added : (c : tie.After-struct-known2 Inv-loop μ-loop) → costTo (c .before .before .before .before .before .args .offer) (c .before .before .before .before .before .args .commitment) (c .before .before .block-at .result .end) ≡ costTo (c .before .before .before .before .before .args .offer) (c .before .before .before .before .before .args .commitment) (c .before .before .before .before .loop .at) + (c .before .before .block-at .result .end - c .before .before .before .before .loop .at) * c .before .before .block-at .result .price
-added c = cost-block _ _ _ _ _ _ (c .before .before .block-at .ensures)
+grains-of-requires-2 : tie.Need-grains-of-requires-2 Inv-loop μ-loop
+grains-of-requires-2 c κs = omega (arith, holds (c .before .before .before .before .before .args .t1) (c .before .before .before .before .before .pre .0) .quantity-most (c .before .before .loop .s) (omega arith))
 
-bounded : (c : tie.After-struct-known2 Inv-loop μ-loop) → costTo (c .before .before .before .before .before .args .offer) (c .before .before .before .before .before .args .commitment) (c .before .before .block-at .result .end) ≤ 1000000000000000000
-bounded c =
-    let end = c .before .before .block-at .result .end in
-    omega (arith, cost-le (c .before .before .before .before .before .args .offer) (c .before .before .before .before .before .args .commitment) (c .before .before .before .before .before .pre .0) end, c .before .before .block-at .ensures .within)
+mul-price : tie.Need-mul-price Inv-loop μ-loop
+mul-price c = omega (arith, holds (c .before .before .before .before .before .before .args .t1) (c .before .before .before .before .before .before .pre .0) .most)
+
+element-copy-out-price : tie.Need-element-copy-out-price Inv-loop μ-loop
+element-copy-out-price c = omega (arith, holds (c .before .before .before .before .before .before .args .t1) (c .before .before .before .before .before .before .pre .0) .most)
+
+least-requires : tie.Need-least-requires Inv-loop μ-loop
+least-requires c κs = search needs
+
+grains-up-to-requires : tie.Need-grains-up-to-requires Inv-loop μ-loop
+grains-up-to-requires c κs = search needs
+
+-- a turn: the step's grains, then the later steps from the place `next` on
+turn : (c : tie.After-grains-up-to Inv-loop μ-loop) (next : ℕ) → next ≡ max (c .before .before .before .before .before .before .loop .at) (c .before .before .before .grains-of2 .result .0) → costOn (c .before .before .before .before .before .before .before .before .before .args .t1) (c .before .before .before .before .before .before .loop .s) (c .before .before .before .before .before .before .loop .at) (c .before .before .before .before .before .before .before .before .before .args .to) ≡ c .grains-up-to .result * stepPrice (c .before .before .before .before .before .before .before .before .before .args .t1) (c .before .before .before .before .before .before .loop .s) + costOn (c .before .before .before .before .before .before .before .before .before .args .t1) (c .before .before .before .before .before .before .loop .s + 1) next (c .before .before .before .before .before .before .before .before .before .args .to)
+turn c next e =
+    let a = c .before .before .before .before .before .before .before .before .before .args in
+    let l = c .before .before .before .before .before .before .loop in
+    let q = ap (λ (n : HubGrains). n .0) (c .before .before .before .grains-of2 .ensures) in
+    cost-next (a .t1) (l .s) (l .at) (a .to) (c .grains-up-to .result) next (omega arith) (omega arith) (omega arith)
 
 mul-cost : tie.Need-mul-cost Inv-loop μ-loop
-mul-cost c = omega (arith, added c, bounded c)
+mul-cost c = omega (arith, turn c _ refl, c .before .before .before .before .before .before .loop .inv)
 
 add-cost : tie.Need-add-cost Inv-loop μ-loop
-add-cost c = omega (arith, added c, bounded c, c .before .before .before .before .loop .inv .2)
+add-cost c = omega (arith, turn c _ refl, c .before .before .before .before .before .before .loop .inv)
+
+greatest-requires-2 : tie.Need-greatest-requires-2 Inv-loop μ-loop
+greatest-requires-2 c κs = search needs
+
+add-s : tie.Need-add-s Inv-loop μ-loop
+add-s c = search needs
 
 loop-less : tie.Need-loop-less Inv-loop μ-loop
-loop-less c = omega (arith, c .before .before .block-at .ensures .past, c .before .before .block-at .ensures .within)
+loop-less c = search needs
 
 loop-again : tie.Need-loop-again Inv-loop μ-loop
 loop-again c =
-    let b = c .before .before .block-at .ensures in
-    (omega (arith, b .past), b .within, omega (arith, added c, c .before .before .before .before .loop .inv .2))
+    let i = c .before .before .before .before .before .before .before .loop .inv in
+    (omega arith, omega (arith, turn (c .before) (c .greatest2 .result) (c .greatest2 .ensures)), i .2)
+
+mul-last-price : tie.Need-mul-last-price Inv-loop μ-loop
+mul-last-price c = omega (arith, holds (c .before .before .before .before .args .t1) (c .before .before .before .before .pre .0) .most)
+
+element-copy-out-last-price : tie.Need-element-copy-out-last-price Inv-loop μ-loop
+element-copy-out-last-price c = omega (arith, holds (c .before .before .before .before .args .t1) (c .before .before .before .before .pre .0) .most, holds (c .before .before .before .before .args .t1) (c .before .before .before .before .pre .0) .least)
+
+grains-up-to-requires-2 : tie.Need-grains-up-to-requires-2 Inv-loop μ-loop
+grains-up-to-requires-2 c κs = search needs
+
+-- the last step, with all grains that are left
+left : (c : tie.After-grains-up-to2 Inv-loop μ-loop) → costOn (c .before .before .before .before .before .before .args .t1) (c .before .before .before .loop .s) (c .before .before .before .loop .at) (c .before .before .before .before .before .before .args .to) ≡ c .grains-up-to2 .result * stepPrice (c .before .before .before .before .before .before .args .t1) (c .before .before .before .loop .s)
+left c =
+    let a = c .before .before .before .before .before .before .args in
+    let l = c .before .before .before .loop in
+    cost-last (a .t1) (l .s) (l .at) (a .to) (omega arith) ∙ ap (λ (n : ℕ). n * stepPrice (a .t1) (l .s)) (sym (c .grains-up-to2 .ensures))
+
+mul-result : tie.Need-mul-result Inv-loop μ-loop
+mul-result c = omega (arith, left c, c .before .before .before .loop .inv)
+
+add-result : tie.Need-add-result Inv-loop μ-loop
+add-result c = omega (arith, left c, c .before .before .before .loop .inv)
 
 returns : tie.Need-returns Inv-loop μ-loop
-unfolding costBetween
-returns c =
-    let a = c .before .before .args in
-    let e : c .before .loop .at ≡ a .to = omega arith in
-    omega (arith, ap (costTo (a .offer) (a .commitment)) e)
+returns c = omega (arith, total (c .before .before .before .before), left c, c .before .before .before .loop .inv)
 
 pub cost-between-spec : {M : Type 1} → statement M
 cost-between-spec =
     tie.close
-    (tie.spec Inv-loop μ-loop loop-holds block-at-requires sub-cost mul-cost add-cost loop-less loop-again returns)
+    (tie.spec
+    Inv-loop
+    μ-loop
+    grains-of-requires
+    greatest-requires
+    sub-last
+    loop-holds
+    mul-quantity
+    element-copy-out-quantity
+    grains-of-requires-2
+    mul-price
+    element-copy-out-price
+    least-requires
+    grains-up-to-requires
+    mul-cost
+    add-cost
+    greatest-requires-2
+    add-s
+    loop-less
+    loop-again
+    mul-last-price
+    element-copy-out-last-price
+    grains-up-to-requires-2
+    mul-result
+    add-result
+    returns)
