@@ -16,7 +16,7 @@ digitsIn (suc left) n =
 unfoldable pub digits : ℕ → List ℕ
 digits n = digitsIn n n
 
--- the tens and the last digit of a number below 100
+-- for the code: the tens and the last digit of a number below 100
 abbrev pub twoDigits : ℕ → List ℕ
 twoDigits n = (48 + n / 10) ∷ ((48 + n % 10) ∷ [])
 

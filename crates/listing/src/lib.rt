@@ -79,7 +79,7 @@ fn put_place(
     at
 }
 
-// What a line of the unit of place k in hour h, both from 0, says where that hour stands settled.
+// The line of the unit of place k in hour h, both from 0, where that hour stands settled.
 fn put_entry(
     out: &mut [u8],
     at: usize,

@@ -47,7 +47,7 @@ unfoldable pub ratesOf : Sheet → ℕ → Rates
 ratesOf sheet hour =
     record { season = inSeason (sheet .month) (sheet .day); loss = sheet .loss; bar = sheet .bar; cpf = getD (sheet .cpf) (hour - 1) 0 }
 
--- what an hour's settlement uses of the sheet, by place, with the units' offers of the hour
+-- for the code: what an hour's settlement uses of the sheet, by place, with the units' offers of the hour
 abbrev pub hourSheetWith : Sheet → ℕ → List Offer → HourSheet
 hourSheetWith sheet hour offer =
     record {
