@@ -122,7 +122,7 @@ fn next_at(text: &[u8], at: usize) -> Next
     if text.len() <= at {
         return Next::Ends;
     }
-    let e = text::find(text, at, b'\n', b'\n');
+    let e = text::find(text, at, b'\n');
     if text.len() <= e {
         return Next::Bad(4);
     }

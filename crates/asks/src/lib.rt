@@ -140,7 +140,7 @@ fn behind_record(text: &[u8], from: usize) -> usize
 {
     let mut at = from;
     while at < text.len() {
-        let e = text::find(text, at, b'\n', b'\n');
+        let e = text::find(text, at, b'\n');
         if text.len() <= e {
             return text.len();
         }
@@ -226,7 +226,7 @@ pub fn ask(text: &[u8], at: usize) -> Asking
     ensures { λ r. ⌜ r ≡ askingAt (now (text .entry)) at ⌝ }
     ensures { λ r. ⌜ (r .refusal ≡ 0 → at < r .next) ⌝ }
 {
-    let e = text::find(text, at, b'\n', b'\n');
+    let e = text::find(text, at, b'\n');
     if text.len() <= e {
         return nothing_asked(4, at);
     }

@@ -92,7 +92,7 @@ fn put_line(out: &mut [u8], at: usize, text: &[u8], from: usize) -> usize
     ensures { λ r. ⌜ output (now (out .exit)) r ≡ written (output (now (out .entry)) at) (lineText (now (text .entry)) from) ⌝ }
 {
     if from < text.len() {
-        let e = text::find(text, from, b'\n', b'\n');
+        let e = text::find(text, from, b'\n');
         return decimal::put_bytes(out, at, &text[from..e]);
     }
     at

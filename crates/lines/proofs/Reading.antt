@@ -9,15 +9,11 @@ use native.Mathlib.Omega.{arith}
 use borrow.Author.Tests.{le-ltb, lt-ltb, ltb-false, eq-eqb, ne-eqb, eqb-true, eqb-false}
 use lib.Dec.{eqb, ltb}
 use lib.ListN.{length, drop, take, length-drop}
-use lib.Seq.{drop-drop}
-use Rattle.text.proofs.Ended.{seek-drop}
-use Rattle.text.proofs.Keys.{no-key, Keyed, keyed}
-use Rattle.text.proofs.Walk.{rest}
 use Rattle.text.proofs.Codes.{code-of, value-code}
 use Rattle.text.proofs.Fits.{Fits, value-fits}
 use Rattle.lines.specs.Refusals.{textNumber, textRefusal, badStart}
 use Rattle.lines.specs.declared.TextRefusal.the-variants.{NotDue, BadValue, OfferOrder, TextEnds}
-use Rattle.text.specs.Text.{seek, before, has, valuePart, keyIs, keyEnd}
+use Rattle.text.specs.Text.{seek, before, has, valuePart, keyIs}
 use Rattle.text.specs.Rows.{noLine, valueOf}
 use Rattle.text.specs.declared.Row.{Row}
 use Rattle.text.specs.declared.Line.{Line}
@@ -31,53 +27,19 @@ module _ (text : List ℕ) (at : ℕ) (row : Row) (e : ℕ) (he : e ≡ at + see
       let n : length (drop at text) ≤ seek 10 10 (drop at text) = omega (arith, length-drop at text) in
       simp (le-ltb _ _ n)
 
-  pub ended-line : e < length text → lineBy (before 10 (drop at text)) row ≡ lineAt text at row
-  unfolding lineAt
-  ended-line h =
-      let short : seek 10 10 (drop at text) < length (drop at text) = omega (arith, length-drop at text) in
-      simp (lt-ltb _ _ short)
+  module _ (h : e < length text) where
+    found : lineBy (take (e - at) (drop at text)) row ≡ lineAt text at row
+    unfolding lineAt
+    found =
+        let short : seek 10 10 (drop at text) < length (drop at text) = omega (arith, length-drop at text) in
+        let n : e - at ≡ seek 10 10 (drop at text) = omega arith in
+        simp (lt-ltb _ _ short) (ap (λ (k : ℕ). lineBy (take k (drop at text)) row) n)
 
--- the line at a place, of whose key is said where its value begins
-module _ (text : List ℕ) (at : ℕ) (row : Row) (from : ℕ) (is : from ≡ keyEnd (before 10 (take (length text - at) (drop at text))) (row .key)) where
-  here : from ≡ keyEnd (before 10 (drop at text)) (row .key)
-  here = is ∙ ap (λ (l : List ℕ). keyEnd (before 10 l) (row .key)) (rest text at)
+    pub not-due : keyIs (take (e - at) (drop at text)) (row .key) ≡ false → noLine 1 ≡ lineAt text at row
+    not-due k = sym (ap (λ (b : Bool). cond b (valueOf row (valuePart (take (e - at) (drop at text)))) (noLine 1)) k) ∙ found
 
-  pub other-key : from ≡ 0 → 1 ≡ lineBy (before 10 (drop at text)) row .code
-  other-key z = simp (no-key (before 10 (drop at text)) (row .key) (sym z ∙ here))
-
-  module _ (some : from ≡ 0 → ⊥) where
-    key-here : Keyed (drop at text) (row .key) from
-    key-here = keyed (drop at text) (row .key) from here some
-
-    behind : take (length text - (at + from)) (drop (at + from) text) ≡ drop from (drop at text)
-    behind = rest text (at + from) ∙ sym (drop-drop from at text)
-
-    -- the value begins within the line, is the line's, and ends where the line does
-    pub value-within : from ≤ seek 10 10 (drop at text)
-    value-within = key-here .within
-
-    pub value-is : valueOf row (before 10 (take (length text - (at + from)) (drop (at + from) text))) ≡ lineBy (before 10 (drop at text)) row
-    value-is = ap (λ (l : List ℕ). valueOf row (before 10 l)) behind ∙ sym (simp (key-here .is, key-here .value))
-
-    pub value-end : from + seek 10 10 (take (length text - (at + from)) (drop (at + from) text)) ≡ seek 10 10 (drop at text)
-    value-end = ap (λ (l : List ℕ). from + seek 10 10 l) behind ∙ seek-drop 10 10 (drop at text) from value-within
-
--- the refusal of a line at a place that its row refuses
-pub refusal-is : (text : List ℕ) (at : ℕ) (row : Row) (code : ℕ) → code ≡ lineBy (before 10 (drop at text)) row .code
-    → cond (has 10 (drop at text)) code 4 ≡ lineAt text at row .code
-unfolding lineAt
-refusal-is text at row code e = by (has 10 (drop at text))
-  where
-    l : Line
-    l = lineBy (before 10 (drop at text)) row
-
-    by : (t : Bool) → cond t code 4 ≡ cond t l (noLine 4) .code
-    by true = e
-    by false = refl
-
-pub refusal-some : (t : Bool) (code : ℕ) → (code ≡ 0 → ⊥) → cond t code 4 ≡ 0 → ⊥
-refusal-some true code n z = n z
-refusal-some false code n z = omega arith
+    pub due : keyIs (take (e - at) (drop at text)) (row .key) ≡ true → valueOf row (valuePart (take (e - at) (drop at text))) ≡ lineAt text at row
+    due k = sym (ap (λ (b : Bool). cond b (valueOf row (valuePart (take (e - at) (drop at text)))) (noLine 1)) k) ∙ found
 
 -- the next line: nothing where the reading is refused; else the line is taken in, or the reading is refused
 module _ (text : List ℕ) (row : Row) (s : Reading) where

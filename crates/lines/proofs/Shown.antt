@@ -28,21 +28,20 @@ module _ (text : List ℕ) (row : Row) (cells : List ℕ) (c : Cursor) (s : Read
         rw (line-refused text row s (sym (shown .refusal-is) ∙ good) (λ e. n (there ∙ e)))
         (record { refusal-is = there; at-is = shown .at-is; lines-is = shown .lines-is; kept = kept })
 
-    module _ (new : List ℕ) (code : ℕ) (l : Line) (p : Placed cells new (c .lines) code l) (same : length new ≡ length cells) where
-      pub shown-placed-bad : (refusal : ℕ) → refusal ≡ lineAt text (c .at) row .code → (refusal ≡ 0 → ⊥)
-          → Shows new (record { refusal = refusal; at = c .at; lines = c .lines }) (readLine text row s)
-      shown-placed-bad refusal = shown-bad new refusal (kept-same cells new (c .lines) code l p same (s .lines) (shown .lines-is) (shown .kept))
+    module _ (new : List ℕ) (code : ℕ) (p : Placed cells new (c .lines) code (lineAt text (c .at) row)) (same : length new ≡ length cells) where
+      pub shown-placed-bad : (code ≡ 0 → ⊥) → Shows new (record { refusal = code; at = c .at; lines = c .lines }) (readLine text row s)
+      shown-placed-bad =
+          shown-bad new code (kept-same cells new (c .lines) code (lineAt text (c .at) row) p same (s .lines) (shown .lines-is) (shown .kept)) (p .code-is)
 
-      pub shown-good : code ≡ 0 → l ≡ lineAt text (c .at) row
-          → Shows new (record { refusal = 0; at = placeAfter text (c .at); lines = c .lines + 1 }) (readLine text row s)
-      shown-good e is =
-          let there : l ≡ lineAt text (s .at) row = is ∙ here in
-          let good-line : l .code ≡ 0 = sym (p .code-is) ∙ e in
-          let kept : Kept new (s .lines ++ (l ∷ [])) = kept-next cells new (c .lines) code l p same (s .lines) (shown .lines-is) (shown .kept) good-line in
-          rw (line-taken text row s (sym (shown .refusal-is) ∙ good) (ap (λ (x : Line). x .code) (sym there) ∙ good-line))
+      pub shown-good : code ≡ 0 → Shows new (record { refusal = 0; at = placeAfter text (c .at); lines = c .lines + 1 }) (readLine text row s)
+      shown-good e =
+          let line : lineAt text (c .at) row .code ≡ 0 = sym (p .code-is) ∙ e in
+          let kept : Kept new (s .lines ++ (lineAt text (c .at) row ∷ [])) =
+          kept-next cells new (c .lines) code (lineAt text (c .at) row) p same (s .lines) (shown .lines-is) (shown .kept) line in
+          rw (line-taken text row s (sym (shown .refusal-is) ∙ good) (ap (λ (l : Line). l .code) (sym here) ∙ line))
           (record {
             refusal-is = refl;
             at-is = ap (placeAfter text) (shown .at-is);
             lines-is = ap (λ (n : ℕ). n + 1) (shown .lines-is) ∙ sym (length-append (s .lines) (lineAt text (s .at) row ∷ []));
-            kept = rw there at kept;
+            kept = rw here at kept;
           })

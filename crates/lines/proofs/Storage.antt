@@ -80,7 +80,7 @@ module _ (cells : List ℕ) (k : ℕ) (room : 25 * k + 25 ≤ length cells) wher
           getD-take 24 (drop (25 * k + 1) cells) i 0 l
           ∙ (getD-drop (25 * k + 1) cells i 0 ∙ (blank (25 * k + 1 + i) (omega arith) ∙ sym (getD-replicate 24 i 0 0 l)))
 
-  module _ (h : Head) (number : List ℕ) (place : ℕ) (l : Line) (held : Held h number place l) (long : length number ≡ 24) where
+  module _ (h : Head) (number : List ℕ) (l : Line) (held : Held h number l) (long : length number ≡ 24) where
     part : List ℕ
     part = putMid (25 * k + 1) (25 * k + 1 + 24 - (25 * k + 1)) cells number
 
@@ -103,7 +103,7 @@ module _ (cells : List ℕ) (k : ℕ) (room : 25 * k + 25 ≤ length cells) wher
               getD-set-other part (25 * k) j (h .count) 0 (λ e. omega arith)
               ∙ put-behind (25 * k + 1) (25 * k + 1 + 24) cells number (omega arith) (omega arith) long-too j (omega arith);
           line-is = λ z r.
-              sym (held-line h number place l held (held .code-is ∙ z))
+              sym (held-line h number l held (held .code-is ∙ z))
               ∙ line-same (record { code = 0; count = h .count; number = number }) (lineIn (set part (25 * k) (h .count)) k) refl
               (sym (getD-set-same part (25 * k) (h .count) 0 (omega (arith, part-length))))
               (sym (ap (take 24) (drop-set-lt (25 * k + 1) part (25 * k) (h .count) (omega arith))

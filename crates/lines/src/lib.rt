@@ -2,14 +2,11 @@
 // 25 cells for each line: first how many numbers the line has, then its 24 numbers.
 ghost use mathlib.Core.Path.{_≡_};
 ghost use Prim.Native.Nat.{_+_, _^_, _≤_, _<_};
-ghost use mathlib.Core.Bool.{cond};
-ghost use lib.ListN.{length, drop, getD};
-ghost use Rattle.text.specs.Text.{seek, before, has};
+ghost use lib.ListN.{length, getD};
 ghost use Rattle.text.specs.Rows.{valueOf};
 ghost use Rattle.lines.specs.Lines.{Reading, readLine};
 ghost use Rattle.lines.specs.Cells.{lineIn, Blank, Placed, Shows};
 ghost use Rattle.lines.specs.Refusals.{textNumber, textLine, textRefusal, badStart, answerOf};
-use text::Head;
 use text::Row;
 
 // Why a text is refused, with the line: document 01's numbers 1 to 4.
@@ -97,31 +94,30 @@ pub fn answer_of(start: usize, c: Cursor) -> ReadAnswer
     ReadAnswer::Refused(text_refusal(c.refusal, c.lines as u64 + 1))
 }
 
-// The head of a value, up to its LF, whose numbers are kept nowhere.
-fn value_head(value: &[u8], row: Row) -> Head
-    ensures { λ r. ⌜ r .code ≡ valueOf row (before 10 (now (value .entry))) .code ⌝ }
-    ensures { λ r. ⌜ (r .code ≡ 0 → r .end ≡ seek 10 10 (now (value .entry))) ⌝ }
+// The code of a value by its row, where its numbers are kept nowhere.
+fn value_code(value: &[u8], row: Row) -> u64
+    ensures { λ r. ⌜ r ≡ valueOf row (now (value .entry)) .code ⌝ }
 {
     let mut number = [0u64; 24];
-    text::value_into(value, row, &mut number)
+    let h = text::value_into(value, row, &mut number);
+    h.code
 }
 
-// The value of line k, up to its LF, by its row, read into the line's own cells where there is room for them.
-fn value_kept(value: &[u8], row: Row, k: usize, cells: &mut [u64]) -> Head
+// The value of line k by its row, read into the line's own cells where there is room for them. The result is the code.
+fn value_kept(value: &[u8], row: Row, k: usize, cells: &mut [u64]) -> u64
     requires { ⌜ k < 2 ^ 32 ⌝ }
     requires { ⌜ Blank (now cells) k ⌝ }
-    ensures { λ r. ⌜ Placed (now (cells .entry)) (now (cells .exit)) k (r .code) (valueOf row (before 10 (now (value .entry)))) ⌝ }
-    ensures { λ r. ⌜ (r .code ≡ 0 → r .end ≡ seek 10 10 (now (value .entry))) ⌝ }
+    ensures { λ r. ⌜ Placed (now (cells .entry)) (now (cells .exit)) k r (valueOf row (now (value .entry))) ⌝ }
 {
     let at = 25 * k;
     let first = at + 1;
     let last = first + 24;
     if cells.len() < last {
-        return value_head(value, row);
+        return value_code(value, row);
     }
     let h = text::value_into(value, row, &mut cells[first..last]);
     cells[at] = h.count as u64;
-    h
+    h.code
 }
 
 // How many numbers line k has.
@@ -158,17 +154,6 @@ pub fn start() -> Cursor
     }
 }
 
-// The refusal of the line at a place that is refused by its row with a code: 4 where the text ends inside the line.
-fn refusal_at(text: &[u8], at: usize, code: u64) -> u64
-    ensures { λ r. ⌜ r ≡ cond (has 10 (drop at (now (text .entry)))) code 4 ⌝ }
-{
-    let e = text::find(text, at, b'\n', b'\n');
-    if text.len() <= e {
-        return 4;
-    }
-    code
-}
-
 // The reading ends at the line due.
 fn refused(c: Cursor, refusal: u64) -> Cursor
     ensures { λ r. ⌜ r ≡ record { refusal = refusal; at = c .at; lines = c .lines } ⌝ }
@@ -180,7 +165,8 @@ fn refused(c: Cursor, refusal: u64) -> Cursor
     }
 }
 
-// The line due, by its row; nothing where the text is refused already.
+// The line due, by its row; nothing where the text is refused already. The line is cut out of the text up to its LF, and its value out of
+// the line.
 pub fn read_line(text: &[u8], row: Row, c: Cursor, cells: &mut [u64]) -> Cursor
     requires { ⌜ c .lines < 2 ^ 32 ⌝ }
     requires { ⌜ (c .refusal ≡ 0 → Blank (now cells) (c .lines)) ⌝ }
@@ -192,23 +178,19 @@ pub fn read_line(text: &[u8], row: Row, c: Cursor, cells: &mut [u64]) -> Cursor
         return c;
     }
     let at = c.at;
-    let k = c.lines;
-    if text.len() < at {
-        return refused(c, 4);
-    }
-    let key = row.key;
-    let from = text::key_end(&text[at..], key);
-    if from == 0 {
-        return refused(c, refusal_at(text, at, 1));
-    }
-    let begin = at + from;
-    let h = value_kept(&text[begin..], row, k, cells);
-    if h.code != 0 {
-        return refused(c, refusal_at(text, at, h.code));
-    }
-    let e = begin + h.end;
+    let e = text::find(text, at, b'\n');
     if text.len() <= e {
         return refused(c, 4);
+    }
+    let line = &text[at..e];
+    let key = row.key;
+    if !text::key_is(line, key) {
+        return refused(c, 1);
+    }
+    let k = c.lines;
+    let code = value_kept(text::value_of(line), row, k, cells);
+    if code != 0 {
+        return refused(c, code);
     }
     Cursor {
         refusal: 0,

@@ -16,26 +16,20 @@ use Rattle.text.specs.declared.Head.{Head}
 use Rattle.text.specs.Text.{seek, wordIs, numberIn}
 use Rattle.text.specs.Rows.{noLine, added, given, last, partNext, markDue, numbers, rising, valueOf, Held}
 
-pub held-refused : (code : ℕ) (number : List ℕ) (place : ℕ) (l : Line) → (code ≡ 0 → ⊥) → noLine code ≡ l
-    → Held (record { code = code; count = 0; end = 0 }) number place l
-held-refused code number place l n e =
+pub held-refused : (code : ℕ) (number : List ℕ) (l : Line) → (code ≡ 0 → ⊥) → noLine code ≡ l → Held (record { code = code; count = 0 }) number l
+held-refused code number l n e =
     let is : code ≡ l .code = ap (λ (x : Line). x .code) e in
-    record { code-is = is; count-is = λ z. absurd (n (is ∙ z)); number-is = λ z. absurd (n (is ∙ z)); end-is = λ z. absurd (n (is ∙ z)) }
+    record { code-is = is; count-is = λ z. absurd (n (is ∙ z)); number-is = λ z. absurd (n (is ∙ z)) }
 
-pub held-good : (count : ℕ) (number : List ℕ) (end place : ℕ) (l : Line) → end ≡ place → record { code = 0; count = count; number = number } ≡ l
-    → Held (record { code = 0; count = count; end = end }) number place l
-held-good count number end place l p e =
-    record {
-      code-is = ap (λ (x : Line). x .code) e;
-      count-is = λ z. ap (λ (x : Line). x .count) e;
-      number-is = λ z. ap (λ (x : Line). x .number) e;
-      end-is = λ z. p;
-    }
+pub held-good : (count : ℕ) (number : List ℕ) (l : Line) → record { code = 0; count = count; number = number } ≡ l
+    → Held (record { code = 0; count = count }) number l
+held-good count number l e =
+    record { code-is = ap (λ (x : Line). x .code) e; count-is = λ z. ap (λ (x : Line). x .count) e; number-is = λ z. ap (λ (x : Line). x .number) e }
 
 -- the line that a head and its numbers make
-pub held-line : (h : Head) (number : List ℕ) (place : ℕ) (l : Line) → Held h number place l → h .code ≡ 0
+pub held-line : (h : Head) (number : List ℕ) (l : Line) → Held h number l → h .code ≡ 0
     → _≡_ {A = Line} (record { code = 0; count = h .count; number = number }) l
-held-line h number place l held z =
+held-line h number l held z =
     let good : l .code ≡ 0 = sym (held .code-is) ∙ z in
     ap {B = Line} (λ (x : ℕ). record { code = x; count = h .count; number = number }) (sym good)
     ∙ (ap {B = Line} (λ (x : ℕ). record { code = l .code; count = x; number = number }) (held .count-is good)
@@ -82,8 +76,8 @@ value-bare row s =
 
 -- the value of a row with numbers, by what is read of it
 module _ (row : Row) (s : List ℕ) (p : row .parts ≡ 0 → ⊥) (q : length s ≡ 0 → ⊥) where
-  module _ (h : Head) (number : List ℕ) (place : ℕ) (held : Held h number place (numbers (row .low) (row .high) (row .parts) (row .most) 0 s (noLine 0))) where
-    pub value-refused : (h .code ≡ 0 → ⊥) → Held h number place (valueOf row s)
+  module _ (h : Head) (number : List ℕ) (held : Held h number (numbers (row .low) (row .high) (row .parts) (row .most) 0 s (noLine 0))) where
+    pub value-refused : (h .code ≡ 0 → ⊥) → Held h number (valueOf row s)
     unfolding valueOf
     value-refused n = simp (ne-eqb _ _ p, ne-eqb _ _ q, ne-eqb _ _ (λ z. n (held .code-is ∙ z))) held
 
@@ -95,15 +89,15 @@ module _ (row : Row) (s : List ℕ) (p : row .parts ≡ 0 → ⊥) (q : length s
           ≡ rising (numbers (row .low) (row .high) (row .parts) (row .most) 0 s (noLine 0) .number) 0 (numbers (row .low) (row .high) (row .parts) (row .most) 0 s (noLine 0) .count / 2) 0 0
       same = cc (held .count-is good, held .number-is good)
 
-      pub value-plain : (row .order ≡ 1 → ⊥) → Held h number place (valueOf row s)
+      pub value-plain : (row .order ≡ 1 → ⊥) → Held h number (valueOf row s)
       unfolding valueOf
       value-plain o = simp (ne-eqb _ _ p, ne-eqb _ _ q, eq-eqb _ _ good, ne-eqb _ _ o) held
 
       module _ (o : row .order ≡ 1) where
-        pub value-rising : rising number 0 (h .count / 2) 0 0 ≡ true → Held h number place (valueOf row s)
+        pub value-rising : rising number 0 (h .count / 2) 0 0 ≡ true → Held h number (valueOf row s)
         unfolding valueOf
         value-rising r = simp (ne-eqb _ _ p, ne-eqb _ _ q, eq-eqb _ _ good, eq-eqb _ _ o, sym same ∙ r) held
 
-        pub value-falling : rising number 0 (h .count / 2) 0 0 ≡ false → Held (record { code = 3; count = 0; end = 0 }) number place (valueOf row s)
+        pub value-falling : rising number 0 (h .count / 2) 0 0 ≡ false → Held (record { code = 3; count = 0 }) number (valueOf row s)
         unfolding valueOf
-        value-falling r = held-refused 3 number place (valueOf row s) (λ e. omega arith) (simp (ne-eqb _ _ p, ne-eqb _ _ q, eq-eqb _ _ good, eq-eqb _ _ o, sym same ∙ r))
+        value-falling r = held-refused 3 number (valueOf row s) (λ e. omega arith) (simp (ne-eqb _ _ p, ne-eqb _ _ q, eq-eqb _ _ good, eq-eqb _ _ o, sym same ∙ r))

@@ -6,5 +6,3 @@ pub mod Codes
 pub mod Heads
 pub mod Parts
 pub mod Pairs
-pub mod Ended
-pub mod Keys

@@ -7,13 +7,11 @@ use Prim.Native.Nat.{ℕ, suc, _+_, _≤_, _<_}
 use native.Mathlib.Omega.{arith}
 use borrow.Author.Tests.{le-ltb, lt-ltb, ne-eqb, eq-eqb}
 use lib.ListN.{length, drop, getD, take, length-drop}
-use lib.Seq.{drop-drop, getD-drop, getD-take}
+use lib.Seq.{drop-drop, getD-drop}
 use Rattle.text.specs.declared.Number.the-variants.{Value, Malformed}
 use Rattle.text.specs.declared.Line.{Line}
-use Rattle.text.specs.Text.{seek, before, numberIn}
+use Rattle.text.specs.Text.{seek, numberIn}
 use Rattle.text.specs.Rows.{noLine, added, last, markDue, partNext, numbers, rising}
-use Rattle.text.proofs.Walk.{seek-le}
-use Rattle.text.proofs.Ended.{line-length}
 
 module _ (low high : List ℕ) (parts k p : ℕ) (s : List ℕ) (l : Line) where
   pub bad : numberIn (getD low p 0) (getD high p 0) (take (seek 58 44 s) s) ≡ Malformed → numbers low high parts (suc k) p s l ≡ noLine 2
@@ -38,26 +36,20 @@ module _ (low high : List ℕ) (parts k p : ℕ) (s : List ℕ) (l : Line) where
     more h q = simp (e, lt-ltb _ _ h, eq-eqb _ _ q)
 
 -- the number at `from`, which ends at e
-module _ (value : List ℕ) (from e : ℕ) (he : e ≡ from + seek 58 44 (drop from (before 10 value))) where
-  pub within-line : from ≤ seek 10 10 value → e ≤ seek 10 10 value
-  within-line h = omega (arith, seek-le 58 44 (drop from (before 10 value)), length-drop from (before 10 value), line-length value)
+module _ (v : List ℕ) (from e : ℕ) (he : e ≡ from + seek 58 44 (drop from v)) where
+  pub at-mark : getD (drop from v) (seek 58 44 (drop from v)) 0 ≡ getD v e 0
+  at-mark = getD-drop from v (seek 58 44 (drop from v)) 0 ∙ ap (λ (k : ℕ). getD v k 0) (sym he)
 
-  pub ended : e ≡ seek 10 10 value → length (drop from (before 10 value)) ≤ seek 58 44 (drop from (before 10 value))
-  ended h = omega (arith, length-drop from (before 10 value), line-length value)
-
-  module _ (more : e < seek 10 10 value) where
-    pub goes-on : seek 58 44 (drop from (before 10 value)) < length (drop from (before 10 value))
-    goes-on = omega (arith, length-drop from (before 10 value), line-length value)
-
-    pub at-mark : getD (drop from (before 10 value)) (seek 58 44 (drop from (before 10 value))) 0 ≡ getD value e 0
-    at-mark =
-        getD-drop from (before 10 value) (seek 58 44 (drop from (before 10 value))) 0
-        ∙ (ap (λ (k : ℕ). getD (before 10 value) k 0) (sym he) ∙ getD-take (seek 10 10 value) value e 0 more)
-
-  pub past-mark : drop (suc (seek 58 44 (drop from (before 10 value)))) (drop from (before 10 value)) ≡ drop (e + 1) (before 10 value)
+  pub past-mark : drop (suc (seek 58 44 (drop from v))) (drop from v) ≡ drop (e + 1) v
   past-mark =
-      let h : from + suc (seek 58 44 (drop from (before 10 value))) ≡ e + 1 = omega arith in
-      drop-drop (suc (seek 58 44 (drop from (before 10 value)))) from (before 10 value) ∙ ap (λ (k : ℕ). drop k (before 10 value)) h
+      let h : from + suc (seek 58 44 (drop from v)) ≡ e + 1 = omega arith in
+      drop-drop (suc (seek 58 44 (drop from v))) from v ∙ ap (λ (k : ℕ). drop k v) h
+
+  pub ended : length v ≤ e → length (drop from v) ≤ seek 58 44 (drop from v)
+  ended h = omega (arith, length-drop from v)
+
+  pub goes-on : e < length v → seek 58 44 (drop from v) < length (drop from v)
+  goes-on h = omega (arith, length-drop from v)
 
 next-le : (t : Bool) (p : ℕ) → cond t 0 (p + 1) ≤ p + 1
 next-le true p = omega arith

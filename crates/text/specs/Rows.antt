@@ -97,9 +97,8 @@ valueOf row s =
     (cond (eqb (length s) 0) (cond (eqb (row .blank) 1) (noLine 0) (noLine 2))
     (checked row (numbers (row .low) (row .high) (row .parts) (row .most) 0 s (noLine 0))))
 
--- a line that ends at a place, as its head and the list of its numbers, which say nothing where the line is refused: for the code only
-pub record Held (h : Head) (number : List ℕ) (place : ℕ) (l : Line) : Type 0 where
+-- a line as its head and the list of its numbers, which says nothing where the line is refused
+pub record Held (h : Head) (number : List ℕ) (l : Line) : Type 0 where
   pub code-is : h .code ≡ l .code
   pub count-is : l .code ≡ 0 → h .count ≡ l .count
   pub number-is : l .code ≡ 0 → number ≡ l .number
-  pub end-is : l .code ≡ 0 → h .end ≡ place

@@ -36,10 +36,6 @@ wordIs (x ∷ xs) (y ∷ ys) = cond (eqb y 61) false (cond (eqb x y) (wordIs xs 
 abbrev pub keyIs : List ℕ → List ℕ → Bool
 keyIs line key = cond (has 61 line) (wordIs (before 61 line) key) false
 
--- the place after the first '=' of a line that has the key due, else 0: for the code only
-abbrev pub keyEnd : List ℕ → List ℕ → ℕ
-keyEnd line key = cond (keyIs line key) (suc (seek 61 61 line)) 0
-
 -- the number n with further digits behind it, as long as it is at most high
 unfoldable pub digits : ℕ → ℕ → List ℕ → Number
 digits high n [] = Value n

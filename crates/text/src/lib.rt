@@ -1,11 +1,11 @@
 // One line key=value of a text: its key, the part that is its value, decimal numbers, and the value read by a row,
-// which says what one kind of line may be. A value ends at its first LF, or where the bytes end.
+// which says what one kind of line may be.
 ghost use mathlib.Core.Path.{_≡_};
-ghost use Prim.Native.Nat.{ℕ, _+_, _*_, _/_, _≤_, _<_};
-ghost use lib.Dec.{leb, eqb};
+ghost use Prim.Native.Nat.{ℕ, _+_, _*_, _/_, _<_};
+ghost use lib.Dec.{leb};
 ghost use lib.ListN.{drop, getD, set, replicate};
 ghost use Rattle.text.specs.declared.Number.the-variants.{Value, Malformed};
-ghost use Rattle.text.specs.Text.{seek, before, valuePart, wordIs, keyIs, keyEnd, digits, numberIn};
+ghost use Rattle.text.specs.Text.{seek, valuePart, wordIs, keyIs, digits, numberIn};
 ghost use Rattle.text.specs.Rows.{word, numberRow, blankRow, wordRow, noLine, markDue, partNext, partBytes, valueOf, Held};
 
 pub enum Number {
@@ -43,11 +43,10 @@ pub struct Line {
     pub number: [u64; 24],
 }
 
-// What stands in a line beside its numbers: the code and the count, and of a good line the place where it ends.
+// What stands in a line beside its numbers: the code and the count.
 pub struct Head {
     pub code: u64,
     pub count: usize,
-    pub end: usize,
 }
 
 // key=number, from low to high.
@@ -109,17 +108,13 @@ fn refused_line(code: u64) -> Line
     }
 }
 
-// The first place at or after `from` of one of two marks, or the end.
-pub fn find(s: &[u8], from: usize, a: u8, b: u8) -> usize
-    ensures { λ r. ⌜ r ≡ from + seek a b (drop from (now (s .entry))) ⌝ }
+// The first place at or after `from` of a mark, or the end.
+pub fn find(s: &[u8], from: usize, mark: u8) -> usize
+    ensures { λ r. ⌜ r ≡ from + seek mark mark (drop from (now (s .entry))) ⌝ }
 {
     let mut i = from;
     while i < s.len() {
-        let x = s[i];
-        if x == a {
-            return i;
-        }
-        if x == b {
+        if s[i] == mark {
             return i;
         }
         i += 1;
@@ -131,7 +126,7 @@ pub fn find(s: &[u8], from: usize, a: u8, b: u8) -> usize
 pub fn value_of(line: &[u8]) -> &[u8]
     ensures { λ r. ⌜ now r ≡ valuePart (now (line .entry)) ⌝ }
 {
-    let i = find(line, 0, b'=', b'=');
+    let i = find(line, 0, b'=');
     if i < line.len() {
         return &line[i + 1..];
     }
@@ -183,30 +178,6 @@ pub fn key_is(line: &[u8], key: [u8; 10]) -> bool
     false
 }
 
-// Where the value begins of the line that stands first in a text, up to its LF; 0 where the key is not the one due.
-pub fn key_end(text: &[u8], key: [u8; 10]) -> usize
-    ensures { λ r. ⌜ r ≡ keyEnd (before 10 (now (text .entry))) key ⌝ }
-{
-    let mut i = 0;
-    while i < 10 {
-        if text.len() <= i {
-            return 0;
-        }
-        let w = key[i];
-        if text[i] != w {
-            return 0;
-        }
-        if w == b'=' {
-            return i + 1;
-        }
-        if w == b'\n' {
-            return 0;
-        }
-        i += 1;
-    }
-    0
-}
-
 fn wide(x: u8) -> u64
     ensures { λ r. ⌜ r ≡ x ⌝ }
 {
@@ -245,22 +216,10 @@ fn within(n: u64, d: u64, high: u64) -> bool
     n <= (high - d) / 10
 }
 
-// Whether the value ends at a place that is not behind its end.
-fn ends(value: &[u8], at: usize) -> bool
-    requires { ⌜ at ≤ seek 10 10 (now value) ⌝ }
-    ensures { λ r. ⌜ r ≡ eqb at (seek 10 10 (now (value .entry))) ⌝ }
-{
-    if value.len() <= at {
-        return true;
-    }
-    value[at] == b'\n'
-}
-
 // The digits of the part that begins at `from`, up to its mark or the end.
 fn digits_at(value: &[u8], from: usize, high: u64) -> Part
-    requires { ⌜ from ≤ seek 10 10 (now value) ⌝ }
-    ensures { λ r. ⌜ r .number ≡ digits high 0 (partBytes (before 10 (now (value .entry))) from) ⌝ }
-    ensures { λ r. ⌜ ((n : ℕ) → r .number ≡ Value n → r .end ≡ from + seek 58 44 (drop from (before 10 (now (value .entry))))) ⌝ }
+    ensures { λ r. ⌜ r .number ≡ digits high 0 (partBytes (now (value .entry)) from) ⌝ }
+    ensures { λ r. ⌜ ((n : ℕ) → r .number ≡ Value n → r .end ≡ from + seek 58 44 (drop from (now (value .entry)))) ⌝ }
 {
     let mut n: u64 = 0;
     let mut i = from;
@@ -268,9 +227,6 @@ fn digits_at(value: &[u8], from: usize, high: u64) -> Part
         let x = value[i];
         if x < b'0' {
             if x == b',' {
-                return part_read(n, i);
-            }
-            if x == b'\n' {
                 return part_read(n, i);
             }
             return part_refused();
@@ -293,9 +249,8 @@ fn digits_at(value: &[u8], from: usize, high: u64) -> Part
 
 // The decimal number of the part that begins at `from`: from low to high, with no leading zero.
 fn part_at(value: &[u8], from: usize, low: u64, high: u64) -> Part
-    requires { ⌜ from ≤ seek 10 10 (now value) ⌝ }
-    ensures { λ r. ⌜ r .number ≡ numberIn low high (partBytes (before 10 (now (value .entry))) from) ⌝ }
-    ensures { λ r. ⌜ ((n : ℕ) → r .number ≡ Value n → r .end ≡ from + seek 58 44 (drop from (before 10 (now (value .entry))))) ⌝ }
+    ensures { λ r. ⌜ r .number ≡ numberIn low high (partBytes (now (value .entry)) from) ⌝ }
+    ensures { λ r. ⌜ ((n : ℕ) → r .number ≡ Value n → r .end ≡ from + seek 58 44 (drop from (now (value .entry)))) ⌝ }
 {
     let d = digits_at(value, from, high);
     let number = d.number;
@@ -377,7 +332,7 @@ fn store(number: &mut [u64], at: usize, n: u64)
 // The numbers of a value: a group's numbers are joined by ':', groups by ','.
 fn numbers(value: &[u8], row: Row, number: &mut [u64]) -> Head
     requires { ⌜ now number ≡ replicate 24 0 ⌝ }
-    ensures { λ r. ⌜ Held r (now (number .exit)) (seek 10 10 (now (value .entry))) (Rattle.text.specs.Rows.numbers (row .low) (row .high) (row .parts) (row .most) 0 (before 10 (now (value .entry))) (noLine 0)) ⌝ }
+    ensures { λ r. ⌜ Held r (now (number .exit)) (Rattle.text.specs.Rows.numbers (row .low) (row .high) (row .parts) (row .most) 0 (now (value .entry)) (noLine 0)) ⌝ }
 {
     let low = row.low;
     let high = row.high;
@@ -391,44 +346,27 @@ fn numbers(value: &[u8], row: Row, number: &mut [u64]) -> Head
         let e = part.end;
         let read = part.number;
         let Number::Value(n) = read else {
-            return Head {
-                code: 2,
-                count: 0,
-                end: 0,
-            };
+            return Head { code: 2, count: 0 };
         };
         store(number, count, n);
         count += 1;
-        if ends(value, e) {
+        if value.len() <= e {
             if p + 1 == parts {
                 return Head {
                     code: 0,
                     count: count,
-                    end: e,
                 };
             }
-            return Head {
-                code: 2,
-                count: 0,
-                end: 0,
-            };
+            return Head { code: 2, count: 0 };
         }
         if value[e] != mark_due(parts, p) {
-            return Head {
-                code: 2,
-                count: 0,
-                end: 0,
-            };
+            return Head { code: 2, count: 0 };
         }
         p = part_next(parts, p);
         from = e + 1;
         left -= 1;
     }
-    Head {
-        code: 2,
-        count: 0,
-        end: 0,
-    }
+    Head { code: 2, count: 0 }
 }
 
 // Whether the first numbers of the pairs rise and the second never fall.
@@ -459,37 +397,20 @@ fn rising(number: &[u64], count: usize) -> bool
 // A value by its row, its numbers stored in a list of 24 zeros.
 pub fn value_into(value: &[u8], row: Row, number: &mut [u64]) -> Head
     requires { ⌜ now number ≡ replicate 24 0 ⌝ }
-    ensures { λ r. ⌜ Held r (now (number .exit)) (seek 10 10 (now (value .entry))) (valueOf row (before 10 (now (value .entry)))) ⌝ }
+    ensures { λ r. ⌜ Held r (now (number .exit)) (valueOf row (now (value .entry))) ⌝ }
 {
     if row.parts == 0 {
         let word = row.word;
-        let e = find(value, 0, b'\n', b'\n');
-        if word_is(&value[0..e], word) {
-            return Head {
-                code: 0,
-                count: 0,
-                end: e,
-            };
+        if word_is(value, word) {
+            return Head { code: 0, count: 0 };
         }
-        return Head {
-            code: 2,
-            count: 0,
-            end: 0,
-        };
+        return Head { code: 2, count: 0 };
     }
-    if ends(value, 0) {
+    if value.len() == 0 {
         if row.blank == 1 {
-            return Head {
-                code: 0,
-                count: 0,
-                end: 0,
-            };
+            return Head { code: 0, count: 0 };
         }
-        return Head {
-            code: 2,
-            count: 0,
-            end: 0,
-        };
+        return Head { code: 2, count: 0 };
     }
     let h = numbers(value, row, number);
     if h.code != 0 {
@@ -500,18 +421,14 @@ pub fn value_into(value: &[u8], row: Row, number: &mut [u64]) -> Head
         if rising(number, count) {
             return h;
         }
-        return Head {
-            code: 3,
-            count: 0,
-            end: 0,
-        };
+        return Head { code: 3, count: 0 };
     }
     h
 }
 
 // A value by its row.
 pub fn read_value(value: &[u8], row: Row) -> Line
-    ensures { λ r. ⌜ r ≡ valueOf row (before 10 (now (value .entry))) ⌝ }
+    ensures { λ r. ⌜ r ≡ valueOf row (now (value .entry)) ⌝ }
 {
     let mut number = [0u64; 24];
     let h = value_into(value, row, &mut number);

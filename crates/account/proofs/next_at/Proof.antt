@@ -1,9 +1,6 @@
 -- Each return is a case of the definition: past the end, no LF, a take, a record, another key.
 -- Assumes nothing.
-use Prim.Native.Nat.{ℕ, _+_}
-use mathlib.Core.List.{List}
-use Rattle.text.specs.Text.{before}
-use Rattle.text.proofs.Ended.{line-value}
+use Prim.Native.Nat.{_+_}
 use mathlib.Core.Path.{sym, ap, _∙_}
 use Rattle.text.specs.declared.Row.{Row}
 use Rattle.text.specs.declared.Line.{Line}
@@ -56,9 +53,7 @@ returns-3 c =
     c .take-of .ensures
     ∙ (ap (λ (l : Line). takeOf l (c .before .before .before .before .before .before .before .before .before .before .find .result + 1))
     (c .before .read-value .ensures
-    ∙ (ap (λ (r : Row). valueOf r (before 10 (v .now))) (c .before .before .take-row .ensures)
-    ∙ (ap (λ (l : List ℕ). valueOf takeRow (before 10 l)) (c .before .before .before .value-of .ensures)
-    ∙ ap (valueOf takeRow) (line-value (c .before .before .before .before .before .before .before .before .before .before .before .before .before .args .text .now) (c .before .before .before .before .before .before .before .before .before .before .before .before .before .args .at) (c .before .before .before .before .before .before .before .before .before .before .find .result) (c .before .before .before .before .before .before .before .before .before .before .find .ensures)))))
+    ∙ (ap (λ (r : Row). valueOf r (v .now)) (c .before .before .take-row .ensures) ∙ ap (valueOf takeRow) (c .before .before .before .value-of .ensures)))
     ∙ take-line (c .before .before .before .before .before .before .before .before .before .before .before .before .before .args .text .now) (c .before .before .before .before .before .before .before .before .before .before .before .before .before .args .at) (c .before .before .before .before .before .before .before .before .before .before .before .if1 .left) (c .before .before .before .before .before .before .before .before .before .before .find .result) (c .before .before .before .before .before .before .before .before .before .before .find .ensures) (c .before .before .before .before .before .before .before .before .before .if2 .left) (sym (c .before .before .before .before .before .key-is .ensures) ∙ c .before .before .before .before .if3 .taken))
 
 key-is-requires-2 : tie.Need-key-is-requires-2

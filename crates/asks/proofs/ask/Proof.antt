@@ -7,9 +7,7 @@ use native.Mathlib.Omega.{arith}
 use Rattle.asks.proofs.Parts.{no-line-end, other-key, bad-value, good-value}
 use Rattle.asks.specs.declared.Asking.{Asking}
 use Rattle.text.specs.Rows.{valueOf}
-use Rattle.text.specs.Text.{before, valuePart}
-use Rattle.text.proofs.Ended.{line-value}
-use mathlib.Core.List.{List}
+use Rattle.text.specs.Text.{valuePart}
 use Rattle.text.specs.declared.Line.{Line}
 use Rattle.text.specs.declared.Row.{Row}
 use mathlib.Core.Path.{_≡_, ap, sym, _∙_}
@@ -71,9 +69,8 @@ value-is c =
     let g = c .before .before .before .before .before .before .before .before .before .args in
     let line = take (c .before .before .before .before .before .before .before .find .result - g .at) (drop (g .at) (g .text .now)) in
     c .read-value .ensures
-    ∙ (ap (λ (r : Row). valueOf r (before 10 (c .before .before .value-of .result .now))) (c .before .row-of .ensures ∙ ap rowOf (c .before .before .before .before .kind-of .ensures))
-    ∙ (ap (λ (l : List ℕ). valueOf (rowOf (kindOf line)) (before 10 l)) (c .before .before .value-of .ensures)
-    ∙ ap (valueOf (rowOf (kindOf line))) (line-value (g .text .now) (g .at) (c .before .before .before .before .before .before .before .find .result) (c .before .before .before .before .before .before .before .find .ensures))))
+    ∙ (ap (λ (r : Row). valueOf r (c .before .before .value-of .result .now)) (c .before .row-of .ensures ∙ ap rowOf (c .before .before .before .before .kind-of .ensures))
+    ∙ ap (valueOf (rowOf (kindOf line))) (c .before .before .value-of .ensures))
 
 nothing-asked-requires-3 : tie.Need-nothing-asked-requires-3
 nothing-asked-requires-3 c κs = search needs

@@ -1,10 +1,9 @@
 -- Where there is no room nothing is stored; else the numbers stand in the line's own cells, which were all 0.
 -- Assumes nothing.
-use mathlib.Core.Path.{refl, ap, sym, _∙_}
+use mathlib.Core.Path.{refl, ap, _∙_}
 use Prim.Native.Nat.{_+_, _*_, _≤_}
 use lib.ListN.{length}
 use native.Mathlib.Omega.{arith}
-use Rattle.text.specs.Text.{before}
 use Rattle.text.specs.Rows.{valueOf}
 use Rattle.lines.proofs.Storage.{blank-part, placed}
 use borrow.Author.Needs.{needs}
@@ -20,19 +19,17 @@ add-first c = search needs
 add-last : tie.Need-add-last
 add-last c = search needs
 
-value-head-requires : tie.Need-value-head-requires
-value-head-requires c κs = search needs
+value-code-requires : tie.Need-value-code-requires
+value-code-requires c κs = search needs
 
 returns : tie.Need-returns
-returns c = (
-  record {
-    code-is = c .value-head .ensures .0;
-    before = λ j h. refl;
-    behind = λ j h. refl;
-    line-is = λ z room. absurd (omega (arith, c .before .if1 .taken));
-  },
-  c .value-head .ensures .1,
-)
+returns c =
+    record {
+      code-is = c .value-code .ensures;
+      before = λ j h. refl;
+      behind = λ j h. refl;
+      line-is = λ z room. absurd (omega (arith, c .before .if1 .taken));
+    }
 
 mul-value-into : tie.Need-mul-value-into
 mul-value-into c = search needs
@@ -64,10 +61,7 @@ returns-2 c =
     let i = c .before .before .value-into in
     let room : 25 * g .k + 25 ≤ length (g .cells .now) = omega (arith, c .before .before .before .before .if1 .left) in
     let blank = c .before .before .before .before .before .before .before .pre .1 in
-    let held = i .ensures in (
-      placed (g .cells .now) (g .k) room (i .result) (i .last .1 .1 .0) _ (valueOf (g .row) (before 10 (g .value .now))) held (i .kept .1 .1 .0 ∙ ap length (blank-part (g .cells .now) (g .k) room blank)),
-      λ z. held .end-is (sym (held .code-is) ∙ z),
-    )
+    placed (g .cells .now) (g .k) room (i .result) (i .last .1 .1 .0) (valueOf (g .row) (g .value .now)) (i .ensures) (i .kept .1 .1 .0 ∙ ap length (blank-part (g .cells .now) (g .k) room blank))
 
 pub value-kept-spec : {M : Type 1} → statement M
 value-kept-spec =
@@ -76,7 +70,7 @@ value-kept-spec =
     mul-at
     add-first
     add-last
-    value-head-requires
+    value-code-requires
     returns
     mul-value-into
     sub-value-into
