@@ -1,7 +1,7 @@
 -- A settle, restate or void decided by what the sheet and the book have of its hour, and carried out on the book, is what its rows say on the whole sheet
 -- and book: the rows look at nothing else, and a refusal changes nothing, whatever the hour.
 -- Assumes nothing.
-use mathlib.Core.Path.{_≡_, refl, sym, ap, _∙_}
+use mathlib.Core.Path.{_≡_, refl, sym, ap, ap₂, _∙_}
 use mathlib.Core.Bool.{Bool, true, false, true≢false, cond, not, _&&_}
 use mathlib.Core.List.{_++_}
 use Prim.Native.Nat.{ℕ, suc, _+_, _-_, _^_, _≤_, _<_}
@@ -17,7 +17,8 @@ use Rattle.record.specs.declared.Record.{Record}
 use Rattle.settlement.specs.declared.HourResult.{HourResult}
 use Rattle.settlement.specs.declared.HourSheet.{HourSheet}
 use Rattle.settlement.specs.Hour.{hourSheet}
-use Rattle.settlement.proofs.Taken.{hour-by, proportions-by}
+use Rattle.settlement.specs.Ranges.{hourBy}
+use Rattle.settlement.proofs.Taken.{hour-units, hour-by, proportions-by}
 use Rattle.state.specs.declared.Book.{Book}
 use Rattle.state.specs.declared.HourEntry.{HourEntry}
 use Rattle.state.specs.Book.{hourEntry, hourCommitments, hourAmounts, noResult, openMark, settledMark}
@@ -144,13 +145,13 @@ module _ (s : Sheet) (b : Book) (count places : ℕ) where
       appliedTo (s .units) b count (r .hour - 1)
       (hourVerdict (verdict (testsIn day r (row standing (f (entrySettled e))) count places)) (recordPosted day e r place) (hourRefused start))
       ≡ byVerdict (verdict (recordRows s r (row standing (f (isSettled b (r .hour)))) count places)) (recordedAt s b r place count) (refusedWith b count start)
-  unfolding hourSheet
   record-on r start place standing f =
       let day = hourSheet s (r .hour) in
       let e = hourEntry b (r .hour - 1) in
-      ap (λ (t : Bool). appliedTo (s .units) b count (r .hour - 1)
-      (hourVerdict (verdict (recordTests (s .units) t r (row standing (f (entrySettled e))) count places)) (recordPosted day e r place) (hourRefused start)))
-      (proportions-by s r)
+      ap₂ (λ (units : ℕ) (t : Bool). appliedTo (s .units) b count (r .hour - 1)
+      (hourVerdict (verdict (recordTests units t r (row standing (f (entrySettled e))) count places))
+      (hourPosted units (e .amounts) (r .hour) settledMark (hourBy day r (e .commitment)) place) (hourRefused start)))
+      (hour-units s (r .hour)) (proportions-by s r)
       ∙ by-on (verdict (recordRows s r (row standing (f (isSettled b (r .hour)))) count places)) (r .hour - 1) start _ _
       (posted-on (r .hour) settledMark _ place
       ∙ ap (λ (x : HourResult). postedWith s b (r .hour) settledMark x place count) (hour-by s r (hourCommitments b (r .hour - 1))))
@@ -176,10 +177,14 @@ module _ (s : Sheet) (b : Book) (count places : ℕ) where
   void-in : (hour start p : ℕ) → p ≡ hour - 1
       → appliedTo (s .units) b count p (voidIn (hourSheet s (suc p)) (hourEntry b p) count start hour places)
       ≡ byVerdict (verdict (voidRows s b hour count places)) (voidedAt s b hour count) (refusedWith b count start)
-  unfolding voidIn hourSheet
+  unfolding voidIn
   void-in hour start p e =
+      let x = hourEntry b (hour - 1) in
       (λ i. appliedTo (s .units) b count (e i) (voidIn (hourSheet s (suc p)) (hourEntry b (e i)) count start hour places))
-      ∙ by-on (verdict (voidRows s b hour count places)) (hour - 1) start _ _ (posted-on hour openMark noResult 0)
+      ∙ (ap (λ (units : ℕ). appliedTo (s .units) b count (hour - 1)
+      (hourVerdict (verdict (voidTests units hour (entrySettled x) count places)) (hourPosted units (x .amounts) hour openMark noResult 0) (hourRefused start)))
+      (hour-units s (suc p))
+      ∙ by-on (verdict (voidRows s b hour count places)) (hour - 1) start _ _ (posted-on hour openMark noResult 0))
 
   void-bad : (hour start p : ℕ) → badHour hour ≡ true
       → appliedTo (s .units) b count p (voidIn (hourSheet s (suc p)) (hourEntry b p) count start hour places)

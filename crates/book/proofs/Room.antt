@@ -12,13 +12,13 @@ use Rattle.sheet.specs.Ranges.{sheetHolds}
 use Rattle.sheet.proofs.InRange.{in-range}
 use Rattle.record.specs.declared.Record.{Record}
 use Rattle.lines.specs.declared.ReadAnswer.the-variants.{Read}
-use Rattle.record.proofs.InRange.{InRange}
+use Rattle.record.specs.InRange.{InRange}
 use Rattle.settlement.specs.declared.HourResult.{HourResult}
 use Rattle.settlement.specs.declared.HourSheet.{HourSheet}
 use Rattle.settlement.specs.Ranges.{HourRead, HourReady, HourGiven, HourDue, hourBy}
 use Rattle.settlement.specs.Hour.{hourSheet, hourResult}
 use Rattle.settlement.proofs.Laws.{amount-most}
-use Rattle.settlement.proofs.Taken.{hour-by}
+use Rattle.settlement.proofs.Taken.{hour-units, hour-by}
 use Rattle.state.specs.declared.Book.{Book}
 use Rattle.state.specs.declared.HourEntry.{HourEntry}
 use Rattle.state.specs.Ranges.{bookHolds, AmountsWithin}
@@ -50,8 +50,7 @@ hour-ready s b book-holds r read =
 
 -- what is used of the sheet has its mask
 pub units-of : (day : HourSheet) (s : Sheet) (hour : ℕ) → day ≡ hourSheet s hour → day .units ≡ s .units
-unfolding hourSheet
-units-of day s hour e = ap (λ (d : HourSheet). d .units) e
+units-of day s hour e = ap (λ (d : HourSheet). d .units) e ∙ hour-units s hour
 
 -- a record that was read: what its tests and its settlement rest on, and what is posted
 module _ (day : HourSheet) (e : HourEntry) (r : Record) (due : RecordDue day e r) where

@@ -16,7 +16,7 @@ use Rattle.offer.specs.declared.Offer.{Offer}
 use Rattle.offer.specs.Offer.{pastOffer, stepsAllowed, inRange, inOrder, offerHolds}
 use Rattle.record.specs.declared.Span.{Span}
 use Rattle.record.specs.Hour.{noSpan}
-use Rattle.record.proofs.InRange.{SpanInRange}
+use Rattle.record.specs.InRange.{SpanInRange}
 use Rattle.allocation.specs.Allocation.{UnitHolds}
 
 abbrev pub hub : ℕ → HubKwh

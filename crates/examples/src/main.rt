@@ -17,7 +17,7 @@ ghost use lib.ListN.{getD};
 ghost use Rattle.offer.specs.Offer.{offerHolds};
 ghost use Rattle.allocation.specs.Allocation.{PlantHolds};
 ghost use Rattle.record.specs.Hour.{noSpan};
-ghost use Rattle.record.proofs.InRange.{SpanInRange};
+ghost use Rattle.record.specs.InRange.{SpanInRange};
 ghost use Rattle.formulas.specs.Items.{Bounded, weighted};
 
 fn say(words: &[u8]) {

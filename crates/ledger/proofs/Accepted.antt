@@ -3,7 +3,7 @@
 use mathlib.Core.Path.{_≡_, refl}
 use mathlib.Core.Bool.{true, false, _&&_}
 use mathlib.Core.List.{List, [], _∷_, _++_}
-use Prim.Native.Nat.{ℕ, _+_, _≤_, _<_}
+use Prim.Native.Nat.{ℕ, _≤_, _<_}
 use native.Mathlib.Omega.{arith}
 use borrow.Author.Tests.{leb-true, not-false, ne-eqb}
 use lib.Dec.{leb}
@@ -17,7 +17,7 @@ use Rattle.lines.specs.declared.ReadAnswer.the-variants.{Read, Refused}
 use Rattle.sheet.specs.declared.Sheet.{Sheet}
 use Rattle.sheet.specs.Ranges.{sheetHolds, monthlyOf, unitAt}
 use Rattle.sheet.proofs.InRange.{in-range}
-use Rattle.record.proofs.InRange.{InRange}
+use Rattle.record.specs.InRange.{InRange}
 use Rattle.record.proofs.Laws.{read-ranges}
 use Rattle.ledger.specs.Ledger.{Ledger, Condition, stands, withHeld, given, always, textCondition, takeConditions, releaseConditions, moveConditions, voidConditions, badHour}
 use Rattle.ledger.proofs.Told.{Clear, none, more}

@@ -2,7 +2,7 @@
 -- accepted only then, and the commitments of a standing hour do not change.
 -- Assumes nothing.
 use mathlib.Core.Path.{_≡_, ap, sym, _∙_, subst}
-use mathlib.Core.Bool.{true, false, not}
+use mathlib.Core.Bool.{true, false}
 use mathlib.Core.List.{List, [], _∷_, _++_}
 use Prim.Native.Nat.{ℕ, _+_, _-_, _≤_, _<_}
 use native.Mathlib.Decide.{ℕ-discrete}
@@ -18,7 +18,7 @@ use Rattle.sheet.specs.declared.Sheet.{Sheet}
 use Rattle.sheet.specs.Ranges.{sheetHolds, unitAt, offerAt}
 use Rattle.sheet.proofs.InRange.{in-range}
 use Rattle.record.specs.declared.Record.{Record}
-use Rattle.record.proofs.InRange.{InRange}
+use Rattle.record.specs.InRange.{InRange}
 use Rattle.ledger.specs.Ledger.{Call, take, release, move, settle, restate, void, Kept, none, kept, Ledger, Outcome, Condition, stands, at, withHeld, lastOffer, heldFits, ledgerFits, restated, given, always, conditionsOf, startOf, effectOf, step, run}
 use Rattle.ledger.proofs.Told.{Clear, none, more, Told, refuses, accepts, step-told}
 use Rattle.ledger.proofs.Accepted.{Taken, record-told, take-open, release-open, move-open, apart}

@@ -11,7 +11,7 @@ use lib.Dec.{eqb}
 use Rattle.record.specs.declared.Span.{Span}
 use Rattle.record.specs.Limits.{lastKind}
 use Rattle.record.specs.Spans.{countedKind}
-use Rattle.record.proofs.InRange.{SpanInRange}
+use Rattle.record.specs.InRange.{SpanInRange}
 
 pub other-kind : (s : Span) → (s .kind ≡ 2 → ⊥) → (s .kind ≡ 3 → ⊥) → s .kind ≡ countedKind s
 unfolding countedKind

@@ -26,7 +26,7 @@ use Rattle.record.specs.Hour.{noSpan, valueOr, blockLine, declaredBy, sp
 use Rattle.record.specs.Spans.{pastUnit}
 use Rattle.record.proofs.Facts.{Whole}
 use Rattle.record.proofs.Same.{block-read}
-use Rattle.record.proofs.InRange.{UnitInRange, InRange}
+use Rattle.record.specs.InRange.{UnitInRange, InRange}
 use Rattle.record.proofs.SpanRanges.{spans-in, span-in}
 
 -- the number of a line, or what blank means there

@@ -32,7 +32,7 @@ use Rattle.record.specs.Spans.{unitAt, spanCount, minutesOf, placeMinute
 use Rattle.record.proofs.Facts.{whole, place-in, place-past}
 use Rattle.record.proofs.Same.{record-same}
 use Rattle.record.proofs.Good.{record-read}
-use Rattle.record.proofs.InRange.{UnitInRange, InRange}
+use Rattle.record.specs.InRange.{UnitInRange, InRange}
 
 -- the cells that show a good reading make its record
 pub shown-record : (text cells : List ℕ) (units : ℕ) (monthly : List GrossKwh) (c : Cursor) → units < 2 ^ 64 → Shows cells c (readLines text (ones units))

@@ -2,7 +2,6 @@ pub mod Places
 pub mod Block
 pub mod Facts
 pub mod Same
-pub mod InRange
 pub mod Counted
 pub mod SpanRanges
 pub mod Good

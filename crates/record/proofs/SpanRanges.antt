@@ -17,7 +17,7 @@ use Rattle.lines.proofs.Reading.{Keeps, keeps-open}
 use Rattle.record.specs.Limits.{mostKwh, mostSpans, hourMinutes, lastKind, lastCause}
 use Rattle.record.specs.Rows.{spansRow}
 use Rattle.record.specs.Hour.{noSpan, wholeHour, spanIn, spanBy, spansBy}
-use Rattle.record.proofs.InRange.{SpanInRange}
+use Rattle.record.specs.InRange.{SpanInRange}
 
 module _ (l : Line) (keeps : Keeps spansRow l) where
   fits : Fits spansRow l

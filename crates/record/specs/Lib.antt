@@ -2,3 +2,4 @@ pub mod Limits
 pub mod Rows
 pub mod Hour
 pub mod Spans
+pub mod InRange

@@ -21,7 +21,7 @@ use Rattle.sheet.specs.declared.Sheet.{Sheet}
 use Rattle.sheet.specs.Ranges.{unitAt as sheetUnit, offerAt, sheetHolds}
 use Rattle.record.specs.declared.Record.{Record}
 use Rattle.record.specs.Spans.{unitAt as recordUnit}
-use Rattle.record.proofs.InRange.{InRange}
+use Rattle.record.specs.InRange.{InRange}
 use Rattle.allocation.specs.Fill.{grainsAt}
 use Rattle.allocation.specs.Allocation.{ceilings, energies, plantEnergy, Allocated}
 use Rattle.allocation.proofs.Laws.{energies-length, energies-allocated, energy-none}

@@ -17,7 +17,7 @@ use Rattle.offer.specs.declared.Offer.{Offer}
 use Rattle.offer.specs.Offer.{pastOffer}
 use Rattle.sheet.specs.declared.Sheet.{Sheet}
 use Rattle.sheet.specs.Ranges.{unitAt, offerAt}
-use Rattle.settlement.specs.Hour.{hourSheetWith, hourOffers, hourSheet}
+use Rattle.settlement.specs.Hour.{hourSheetWith, hourOffers, hourSheet, hour-sheet-is}
 use Rattle.settlement.specs.Ranges.{Listed}
 
 module _ (sheet : Sheet) (k : ℕ) where
@@ -83,11 +83,11 @@ hour-next l h k offer lk t =
     }
 
 pub hour-all : (sheet : Sheet) (l : List Offer) → Listed sheet 8 l → (h : ℕ) (offer : List Offer) → h < 24 → HourListed l h 8 offer → hourSheetWith sheet (h + 1) offer ≡ hourSheet sheet (suc h)
-unfolding hourSheet
 hour-all sheet l s h offer lh t =
     let f : ℕ → Offer = λ j. getD l (8 * h + j) pastOffer in
     let is =
     filled f offer 8 (omega (arith, t .long)) (t .offer-is)
     ∙ tabulate-same 8 f (λ (j : ℕ). offerAt (unitAt (sheet .unit) j) h) (λ j lj. listed-at sheet l s h j lh lj) in
     let back : h ≡ suc h - 1 = omega arith in
-    ap₂ (λ (n : ℕ) (o : List Offer). hourSheetWith sheet n o) (add-one h) is ∙ ap (λ (n : ℕ). hourSheetWith sheet (suc h) (hourOffers sheet n)) back
+    ap₂ (λ (n : ℕ) (o : List Offer). hourSheetWith sheet n o) (add-one h) is
+    ∙ (ap (λ (n : ℕ). hourSheetWith sheet (suc h) (hourOffers sheet n)) back ∙ sym (hour-sheet-is sheet (suc h)))

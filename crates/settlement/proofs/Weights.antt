@@ -22,7 +22,7 @@ use Rattle.apportion.proofs.Laws.{shares-zero, shares-total}
 use Rattle.record.specs.declared.Span.{Span}
 use Rattle.record.specs.declared.UnitRecord.{UnitRecord}
 use Rattle.record.specs.Spans.{countedKind, spanAt, spanCount}
-use Rattle.record.proofs.InRange.{SpanInRange, UnitInRange}
+use Rattle.record.specs.InRange.{SpanInRange, UnitInRange}
 use Rattle.formulas.specs.Items.{firstKind, kinds}
 use Rattle.settlement.specs.Deviation.{shortMinutes, countedAs, proportion, proportions, deviationsOf}
 use Rattle.settlement.specs.Ranges.{SplitReady}

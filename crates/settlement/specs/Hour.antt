@@ -62,8 +62,13 @@ hourSheetWith sheet hour offer =
 abbrev pub hourOffers : Sheet → ℕ → List Offer
 hourOffers sheet h = tabulate 8 (λ k. offerAt (sheetUnit (sheet .unit) k) h)
 
-unfoldable pub hourSheet : Sheet → ℕ → HourSheet
+pub hourSheet : Sheet → ℕ → HourSheet
 hourSheet sheet hour = hourSheetWith sheet hour (hourOffers sheet (hour - 1))
+
+-- `hourSheet` is opened by this alone; the crates above rest on `hour-units`, `hour-by` and `proportions-by` (proofs/Taken.antt)
+pub hour-sheet-is : (sheet : Sheet) (hour : ℕ) → hourSheet sheet hour ≡ hourSheetWith sheet hour (hourOffers sheet (hour - 1))
+unfolding hourSheet
+hour-sheet-is sheet hour = refl
 
 -- 1. Energy, by the unit's grains
 unfoldable pub energyItem : Offer → HubKwh → HubGrains → ℤ

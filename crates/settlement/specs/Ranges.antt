@@ -15,7 +15,7 @@ use Rattle.sheet.specs.Ranges.{sheetHolds, unitAt as sheetUnit, offerAt}
 use Rattle.record.specs.declared.UnitRecord.{UnitRecord}
 use Rattle.record.specs.declared.Record.{Record}
 use Rattle.record.specs.Spans.{pastUnit, unitAt as recordUnit}
-use Rattle.record.proofs.InRange.{UnitInRange, InRange}
+use Rattle.record.specs.InRange.{UnitInRange, InRange}
 use Rattle.formulas.specs.declared.Deviations.{Deviations}
 use Rattle.allocation.specs.declared.Plant.{Plant}
 use Rattle.allocation.specs.Allocation.{energies}

@@ -21,7 +21,7 @@ ghost use Rattle.units.specs.Units.{memberAt, isLowest};
 ghost use Rattle.offer.specs.Offer.{offerHolds};
 ghost use Rattle.sheet.specs.Ranges.{unitAt as «sheet_unit», offerAt};
 ghost use Rattle.record.specs.Spans.{unitAt as «record_unit»};
-ghost use Rattle.record.proofs.InRange.{SpanInRange, UnitInRange, InRange};
+ghost use Rattle.record.specs.InRange.{SpanInRange, UnitInRange, InRange};
 ghost use Rattle.settlement.specs.Deviation.{shortMinutes, proportions as «the_proportions», deviationsOf};
 ghost use Rattle.settlement.specs.Hour.{noAmounts, ratesOf, energyItem, availabilityItem, refundItem, testItem, amountsOf, hourSheetWith, hourSheet};
 ghost use Rattle.settlement.specs.Refusals.{readingsTotal, allMeasured, readingsHold, noProportion, unitProportioned};

@@ -9,7 +9,7 @@ use Rattle.finite.proofs.Sums.{sum-next}
 use Rattle.units.specs.Units.{memberAt}
 use Rattle.record.specs.declared.Record.{Record}
 use Rattle.record.specs.Spans.{unitAt}
-use Rattle.record.proofs.InRange.{InRange}
+use Rattle.record.specs.InRange.{InRange}
 use Rattle.settlement.specs.Refusals.{readingsTotal}
 use borrow.Author.Needs.{needs}
 use Rattle.settlement.proofs.readings_total.Statement.{statement}

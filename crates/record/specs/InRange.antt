@@ -1,5 +1,4 @@
--- What the values of a record that was read keep to.
--- Assumes nothing.
+-- What the values of a record that was read keep to (01, Hour record). `read-ranges` (proofs/Laws.antt) says that each record read does.
 use mathlib.Core.Path.{_≡_}
 use mathlib.Core.Bool.{true, false}
 use Prim.Native.Nat.{ℕ, _≤_, _<_}
@@ -11,6 +10,7 @@ use Rattle.record.specs.Limits.{lastHour, mostPlantKwh, mostKwh, mostSin
 use Rattle.record.specs.Hour.{noUnit}
 use Rattle.record.specs.Spans.{unitAt, spanAt}
 
+-- "Spans: 1 to 6 of minutes:kind:cause:capability"
 pub record SpanInRange (s : Span) : Type 0 where
   pub minutes-least : 1 ≤ s .minutes
   pub minutes-most : s .minutes ≤ hourMinutes
@@ -19,6 +19,7 @@ pub record SpanInRange (s : Span) : Type 0 where
   pub cause : s .cause ≤ lastCause
   pub capability : s .capability .0 ≤ mostKwh
 
+-- "per unit ascending `declared` (gross), `real` (net capability), (..), each 0–10^6 kWh; `since` 1–744; `repair` 1 (..) else 0; `spans`"
 pub record UnitInRange (u : UnitRecord) : Type 0 where
   pub declared : u .declared .0 ≤ mostKwh
   pub real : u .real .0 ≤ mostKwh
@@ -34,6 +35,7 @@ pub record UnitInRange (u : UnitRecord) : Type 0 where
   pub spans-most : u .spans ≤ mostSpans
   pub span : (i : ℕ) → i < u .spans → SpanInRange (spanAt u i)
 
+-- "`hour` 1–24, `net` and `reverse` (gate kWh, 0–8,000,000), then per unit": outside the plant nothing is read
 pub record InRange (units : ℕ) (r : Record) : Type 0 where
   pub hour-least : 1 ≤ r .hour
   pub hour-most : r .hour ≤ lastHour
