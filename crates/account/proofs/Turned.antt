@@ -26,7 +26,7 @@ left-by text after left place Accepted = left-with left (nextAt text after)
 left-by text after left place (Posted n) = left-with left (nextAt text place)
 left-by text after left place (Refused r) = inl refl
 
-left-next : (sheet : Sheet) (text : List ℕ) (s : Running) → (turned sheet text s .day .left ≡ 0) ⊎ (turned sheet text s .day .left ≡ s .day .left - 1)
+pub left-next : (sheet : Sheet) (text : List ℕ) (s : Running) → (turned sheet text s .day .left ≡ 0) ⊎ (turned sheet text s .day .left ≡ s .day .left - 1)
 unfolding turned dayAfter
 left-next sheet text s = let o = performedIn sheet text s .outcome in left-by text (s .day .after) (s .day .left) (o .place) (o .answer)
 

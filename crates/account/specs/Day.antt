@@ -77,7 +77,8 @@ nextAt text at =
 abbrev pub noneDue : (refusal : ℕ) → Due
 noneDue refusal = record { left = 0; asked = noneAsked; after = 0; refusal = refusal }
 
--- a call is due. Each call takes a byte of the text at least, so no more come than `left`
+-- a call is due. Each call takes a byte of the text at least, so no more come than `left`: `none-left` (proofs/DayEnds.antt) says that while none is
+-- left none is due
 abbrev pub dueWith : (left : ℕ) → Next → Due
 dueWith left Ends = noneDue 0
 dueWith left (Bad number) = noneDue number

@@ -1,3 +1,4 @@
 pub mod Behind
 pub mod Parts
 pub mod Counted
+pub mod ExtentEnds

@@ -26,7 +26,8 @@ counted n e = record { calls = n + e .calls; refusal = e .refusal; line = e .lin
 abbrev pub stopAt : (refusal line : ℕ) → Extent
 stopAt refusal line = record { calls = 0; refusal = refusal; line = line }
 
--- the calls from a place on; each takes a byte at least, so that there are no more of them than bytes
+-- the calls from a place on; each takes a byte at least, so that there are no more of them than bytes: `extent-is` (proofs/ExtentEnds.antt) says it
+-- without a count
 unfoldable pub extentBy : (left : ℕ) → List ℕ → ℕ → Extent
 extentBy zero text at = stopAt 0 0
 extentBy (suc left) text at =

@@ -2,4 +2,5 @@ pub mod Changed
 pub mod Anywhere
 pub mod Good
 pub mod Parts
+pub mod Always
 pub mod Bounds

@@ -19,6 +19,9 @@ use Rattle.state.specs.Sizes.{entryOf}
 use Rattle.state.specs.Ranges.{bookHolds}
 use Rattle.postings.specs.declared.Posting.{Posting}
 use Rattle.postings.specs.Journal.{countHolds, postedHold}
+use Rattle.ledger.specs.declared.Verdict.{Verdict}
+use Rattle.ledger.specs.declared.Verdict.the-variants.{Accepted, Refused}
+use Rattle.ledger.specs.Numbers.{refusalNumber}
 
 -- sheet, book, and the journal: a count and a list of places
 pub record Given : Type 0 where
@@ -27,11 +30,17 @@ pub record Given : Type 0 where
   pub count : ℕ
   pub journal : List Posting
 
--- the number that every call refuses it with: 9, then 12; 0 where neither condition holds
+-- the number that every call refuses it with: 9, then 12; 0 where neither condition holds. `refusal-is` (proofs/Always.antt) says that it is
+-- the verdict of the two rows with which every call begins
 unfoldable pub refusal : Given → ℕ
 refusal g =
     let posted = postedHold (take (g .count) (g .journal)) in
     cond (sheetHolds (g .sheet)) (cond (bookHolds (g .sheet) (g .book) && (countHolds (g .count) (length (g .journal)) && posted)) 0 12) 9
+
+-- document 01's number of a verdict, 0 where nothing is refused
+abbrev pub numberOf : Verdict → ℕ
+numberOf Accepted = 0
+numberOf (Refused r) = refusalNumber r
 
 -- what neither looks at: the sheet's values of units outside the plant, by unit; an offer's places past its steps; and, by the place in
 -- the journal, what stands past the count, and all but the amount of what is counted
