@@ -376,7 +376,7 @@ fn go_on(
     }
 }
 
-// The calls from the next one on up to one that posts, and its postings appended.
+// The calls from the next one on, as many as the rows have room for, and their postings appended.
 fn turn(
     list: &mut [Posting],
     sheet: Sheet,

@@ -332,7 +332,7 @@ pub fn monthly_of(sheet: Sheet) -> [GrossKwh; 8]
     ]
 }
 
-// Whether a unit's values keep their ranges and orders.
+// Whether a unit's offers of the 24 hours keep their ranges and orders.
 fn offers_hold(u: UnitSheet) -> bool
     ensures { λ r. ⌜ r ≡ every 24 (λ h. offerHolds (offerAt u h)) ⌝ }
 {
@@ -347,6 +347,7 @@ fn offers_hold(u: UnitSheet) -> bool
     true
 }
 
+// Whether a unit's values keep their ranges and orders.
 fn unit_holds(u: UnitSheet) -> bool
     ensures { λ r. ⌜ r ≡ unitHolds u ⌝ }
 {
