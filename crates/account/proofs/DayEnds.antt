@@ -174,7 +174,7 @@ module _ (sheet : Sheet) (text : List ℕ) where
       let o = performedIn sheet text r .outcome in
       answered-lasts text (dueIn (r .day)) (o .place) (o .answer) lasts some (take-told r) (settle-told r)
 
-  -- the last of the turns from a day on, of which there are k at most
+  -- the turns from a day on end in one with no call left
   record Ended (r : Running) : Type 0 where
     lasts : Lasts text (dueIn (r .day))
     last : r .day .left ≡ 0
