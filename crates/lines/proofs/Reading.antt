@@ -27,19 +27,15 @@ module _ (text : List ℕ) (at : ℕ) (row : Row) (e : ℕ) (he : e ≡ at + see
       let n : length (drop at text) ≤ seek 10 10 (drop at text) = omega (arith, length-drop at text) in
       simp (le-ltb _ _ n)
 
-  module _ (h : e < length text) where
-    found : lineBy (take (e - at) (drop at text)) row ≡ lineAt text at row
-    unfolding lineAt
-    found =
-        let short : seek 10 10 (drop at text) < length (drop at text) = omega (arith, length-drop at text) in
-        let n : e - at ≡ seek 10 10 (drop at text) = omega arith in
-        simp (lt-ltb _ _ short) (ap (λ (k : ℕ). lineBy (take k (drop at text)) row) n)
-
-    pub not-due : keyIs (take (e - at) (drop at text)) (row .key) ≡ false → noLine 1 ≡ lineAt text at row
-    not-due k = sym (ap (λ (b : Bool). cond b (valueOf row (valuePart (take (e - at) (drop at text)))) (noLine 1)) k) ∙ found
-
-    pub due : keyIs (take (e - at) (drop at text)) (row .key) ≡ true → valueOf row (valuePart (take (e - at) (drop at text))) ≡ lineAt text at row
-    due k = sym (ap (λ (b : Bool). cond b (valueOf row (valuePart (take (e - at) (drop at text)))) (noLine 1)) k) ∙ found
+  -- it is cut out of the text there, and goes by whether its key is the one due
+  pub by-key : e < length text → (due : Bool) → keyIs (take (e - at) (drop at text)) (row .key) ≡ due
+      → cond due (valueOf row (valuePart (take (e - at) (drop at text)))) (noLine 1) ≡ lineAt text at row
+  unfolding lineAt
+  by-key h due k =
+      let short : seek 10 10 (drop at text) < length (drop at text) = omega (arith, length-drop at text) in
+      let n : e - at ≡ seek 10 10 (drop at text) = omega arith in
+      sym (ap (λ (b : Bool). cond b (valueOf row (valuePart (take (e - at) (drop at text)))) (noLine 1)) k)
+      ∙ simp (lt-ltb _ _ short) (ap (λ (k : ℕ). lineBy (take k (drop at text)) row) n)
 
 -- the next line: nothing where the reading is refused; else the line is taken in, or the reading is refused
 module _ (text : List ℕ) (row : Row) (s : Reading) where

@@ -3,12 +3,13 @@
 -- Assumes nothing.
 use Prim.Native.Nat.{ℕ, _+_}
 use mathlib.Core.Path.{_≡_, ap, sym, _∙_, subst}
+use mathlib.Core.Bool.{true, false}
 use native.Mathlib.Omega.{arith}
 use Rattle.text.specs.declared.Line.{Line}
 use Rattle.text.specs.Rows.{valueOf}
 use Rattle.lines.specs.Lines.{lineAt, placeAfter, readLine}
 use Rattle.lines.specs.Cells.{Placed, Shows}
-use Rattle.lines.proofs.Reading.{unended, not-due, due}
+use Rattle.lines.proofs.Reading.{unended, by-key}
 use Rattle.lines.proofs.Storage.{blank-next}
 use Rattle.lines.proofs.Shown.{shown-refused, shown-bad, shown-placed-bad, shown-good}
 use borrow.Author.Needs.{needs}
@@ -58,7 +59,7 @@ returns-3 : tie.Need-returns-3
 returns-3 c =
     let g = c .before .before .before .before .before .before .before .before .before .before .before .args in
     let f = c .before .before .before .before .before .before .find in
-    let other = not-due (g .text .now) (g .c .at) (g .row) (f .result) (f .ensures) (c .before .before .before .before .before .if2 .left) (sym (c .before .before .key-is .ensures) ∙ not-true _ (c .before .if3 .taken)) in
+    let other = by-key (g .text .now) (g .c .at) (g .row) (f .result) (f .ensures) (c .before .before .before .before .before .if2 .left) false (sym (c .before .before .key-is .ensures) ∙ not-true _ (c .before .if3 .taken)) in
     rw (c .refused2 .ensures) (
       λ s shown. shown-bad (g .text .now) (g .row) (g .cells .now) (g .c) s shown (c .before .before .before .before .before .before .before .if1 .left) (g .cells .now) 1 (shown .kept) (ap (λ (l : Line). l .code) other) (λ z. omega arith),
       (omega arith, λ z. omega arith),
@@ -79,7 +80,7 @@ read c =
     let f = c .before .before .before .before .before .before .before .before .find in
     subst (λ (l : Line). Placed (g .cells .now) (c .value-kept .last .1 .1 .1 .0) (g .c .lines) (c .value-kept .result) l)
     (ap (valueOf (g .row)) (c .before .before .value-of .ensures)
-    ∙ due (g .text .now) (g .c .at) (g .row) (f .result) (f .ensures) (c .before .before .before .before .before .before .before .if2 .left) (sym (c .before .before .before .before .key-is .ensures) ∙ not-false _ (c .before .before .before .if3 .left)))
+    ∙ by-key (g .text .now) (g .c .at) (g .row) (f .result) (f .ensures) (c .before .before .before .before .before .before .before .if2 .left) true (sym (c .before .before .before .before .key-is .ensures) ∙ not-false _ (c .before .before .before .if3 .left)))
     (c .value-kept .ensures)
 
 refused-requires-3 : tie.Need-refused-requires-3
