@@ -1,7 +1,8 @@
-// The plant's energies and what is paid for them. Gross, net-at-gate and hub energies are types of their own,
-// so that none is added to another without the conversion between them.
+// The plant's energies and what is paid for them. Gross, net-at-gate and hub energies are types of their own: each is added, subtracted and
+// compared with its own kind only, and the conversions from one kind to another stand here alone.
 ghost use mathlib.Core.Path.{_≡_};
-ghost use Prim.Native.Nat.{_≤_, _<_};
+ghost use Prim.Native.Nat.{_+_, _*_, _-_, _/_, _^_, _≤_, _<_, min, max};
+ghost use lib.Dec.{ltb, eqb};
 ghost use Rattle.energy.specs.Energy.{netOf, hubOf, gateOf, grainsOf, payOf};
 
 // Gross energy in kWh.
@@ -63,4 +64,172 @@ pub fn pay_of(k: NetKwh, cpf: u64, bar: u64) -> u64
     let rated = k.0 * cpf;
     let product = rated * bar;
     product / 1000000
+}
+
+// The lesser and the greater of two numbers.
+fn lesser_of(a: u64, b: u64) -> u64
+    ensures { λ r. ⌜ r ≡ min a b ⌝ }
+{
+    if a < b { a } else { b }
+}
+
+fn greater_of(a: u64, b: u64) -> u64
+    ensures { λ r. ⌜ r ≡ max a b ⌝ }
+{
+    if a < b { b } else { a }
+}
+
+// max(a - b, 0)
+fn difference(a: u64, b: u64) -> u64
+    ensures { λ r. ⌜ r ≡ a - b ⌝ }
+{
+    if a < b { 0 } else { a - b }
+}
+
+impl GrossKwh {
+    pub fn plus(self, more: GrossKwh) -> GrossKwh
+        requires { ⌜ self .0 + more .0 < 2 ^ 64 ⌝ }
+        ensures { λ r. ⌜ r .0 ≡ self .0 + more .0 ⌝ }
+    {
+        GrossKwh(self.0 + more.0)
+    }
+
+    pub fn lesser(self, other: GrossKwh) -> GrossKwh
+        ensures { λ r. ⌜ r .0 ≡ min (self .0) (other .0) ⌝ }
+    {
+        GrossKwh(lesser_of(self.0, other.0))
+    }
+
+    // So many percent of it, rounded down.
+    pub fn percent(self, share: u64) -> GrossKwh
+        requires { ⌜ self .0 * share < 2 ^ 64 ⌝ }
+        ensures { λ r. ⌜ r .0 ≡ self .0 * share / 100 ⌝ }
+    {
+        GrossKwh(self.0 * share / 100)
+    }
+
+    pub fn exceeds(self, other: GrossKwh) -> bool
+        ensures { λ r. ⌜ r ≡ ltb (other .0) (self .0) ⌝ }
+    {
+        other.0 < self.0
+    }
+}
+
+impl NetKwh {
+    pub fn plus(self, more: NetKwh) -> NetKwh
+        requires { ⌜ self .0 + more .0 < 2 ^ 64 ⌝ }
+        ensures { λ r. ⌜ r .0 ≡ self .0 + more .0 ⌝ }
+    {
+        NetKwh(self.0 + more.0)
+    }
+
+    // max(self - other, 0)
+    pub fn above(self, other: NetKwh) -> NetKwh
+        ensures { λ r. ⌜ r .0 ≡ self .0 - other .0 ⌝ }
+    {
+        NetKwh(difference(self.0, other.0))
+    }
+
+    pub fn greater(self, other: NetKwh) -> NetKwh
+        ensures { λ r. ⌜ r .0 ≡ max (self .0) (other .0) ⌝ }
+    {
+        NetKwh(greater_of(self.0, other.0))
+    }
+
+    pub fn times(self, factor: u64) -> NetKwh
+        requires { ⌜ factor * self .0 < 2 ^ 64 ⌝ }
+        ensures { λ r. ⌜ r .0 ≡ factor * self .0 ⌝ }
+    {
+        NetKwh(factor * self.0)
+    }
+
+    // Its product with a number that is no factor of an energy, as minutes or tenths: what a proportion or a charge goes by.
+    pub fn weight(self, factor: u64) -> u64
+        requires { ⌜ self .0 * factor < 2 ^ 64 ⌝ }
+        ensures { λ r. ⌜ r ≡ self .0 * factor ⌝ }
+    {
+        self.0 * factor
+    }
+
+    pub fn exceeds(self, other: NetKwh) -> bool
+        ensures { λ r. ⌜ r ≡ ltb (other .0) (self .0) ⌝ }
+    {
+        other.0 < self.0
+    }
+
+    pub fn equals(self, other: NetKwh) -> bool
+        ensures { λ r. ⌜ r ≡ eqb (self .0) (other .0) ⌝ }
+    {
+        self.0 == other.0
+    }
+}
+
+impl HubKwh {
+    pub fn plus(self, more: HubKwh) -> HubKwh
+        requires { ⌜ self .0 + more .0 < 2 ^ 64 ⌝ }
+        ensures { λ r. ⌜ r .0 ≡ self .0 + more .0 ⌝ }
+    {
+        HubKwh(self.0 + more.0)
+    }
+
+    // max(self - other, 0)
+    pub fn above(self, other: HubKwh) -> HubKwh
+        ensures { λ r. ⌜ r .0 ≡ self .0 - other .0 ⌝ }
+    {
+        HubKwh(difference(self.0, other.0))
+    }
+
+    pub fn exceeds(self, other: HubKwh) -> bool
+        ensures { λ r. ⌜ r ≡ ltb (other .0) (self .0) ⌝ }
+    {
+        other.0 < self.0
+    }
+
+    pub fn equals(self, other: HubKwh) -> bool
+        ensures { λ r. ⌜ r ≡ eqb (self .0) (other .0) ⌝ }
+    {
+        self.0 == other.0
+    }
+}
+
+impl HubGrains {
+    pub fn plus(self, more: HubGrains) -> HubGrains
+        requires { ⌜ self .0 + more .0 < 2 ^ 64 ⌝ }
+        ensures { λ r. ⌜ r .0 ≡ self .0 + more .0 ⌝ }
+    {
+        HubGrains(self.0 + more.0)
+    }
+
+    // max(self - other, 0)
+    pub fn above(self, other: HubGrains) -> HubGrains
+        ensures { λ r. ⌜ r .0 ≡ self .0 - other .0 ⌝ }
+    {
+        HubGrains(difference(self.0, other.0))
+    }
+
+    pub fn lesser(self, other: HubGrains) -> HubGrains
+        ensures { λ r. ⌜ r .0 ≡ min (self .0) (other .0) ⌝ }
+    {
+        HubGrains(lesser_of(self.0, other.0))
+    }
+
+    pub fn greater(self, other: HubGrains) -> HubGrains
+        ensures { λ r. ⌜ r .0 ≡ max (self .0) (other .0) ⌝ }
+    {
+        HubGrains(greater_of(self.0, other.0))
+    }
+
+    pub fn exceeds(self, other: HubGrains) -> bool
+        ensures { λ r. ⌜ r ≡ ltb (other .0) (self .0) ⌝ }
+    {
+        other.0 < self.0
+    }
+
+    // What so many grains cost at one price in Rial/MWh, undivided: 10^7 times the Rial.
+    pub fn cost(self, price: u64) -> u64
+        requires { ⌜ self .0 * price < 2 ^ 64 ⌝ }
+        ensures { λ r. ⌜ r ≡ self .0 * price ⌝ }
+    {
+        self.0 * price
+    }
 }
