@@ -1,13 +1,9 @@
 -- What the crates above use of the items: how large each can be.
 -- Assumes nothing.
-use mathlib.Core.Path.{_≡_, sym, _∙_}
 use mathlib.Core.Bool.{Bool, true, false}
 use Prim.Native.Nat.{ℕ, _+_, _*_, _-_, _≤_, _<_}
 use native.Mathlib.Nat.{mul-le-mul, mul-le-mul-right}
-use native.Mathlib.Decide.{decLt}
 use native.Mathlib.Omega.{arith}
-use borrow.Author.Tests.{lt-ltb, le-ltb}
-use lib.Dec.{ltb}
 use lib.ListN.{getD}
 use Rattle.finite.specs.Finite.{sum}
 use Rattle.finite.proofs.Sums.{sum-has}
@@ -15,15 +11,7 @@ use Rattle.energy.specs.declared.GrossKwh.{GrossKwh}
 use Rattle.energy.specs.declared.NetKwh.{NetKwh}
 use Rattle.energy.proofs.Laws.{pay-most}
 use Rattle.formulas.specs.declared.Deviations.{Deviations}
-use Rattle.formulas.specs.Items.{kinds, deviationOf, energyPay, availability, declarationCeiling, refundKwh, refund, countedDeviation, weighted, drawnPay}
-
--- a difference is over 0 where its first number is the larger
-pub over-test : (a b : ℕ) → ltb 0 (a - b) ≡ ltb b a
-over-test a b = go (decLt b a)
-  where
-    go : Dec (b < a) → ltb 0 (a - b) ≡ ltb b a
-    go (yes l) = let h : 0 < a - b = omega arith in lt-ltb 0 (a - b) h ∙ sym (lt-ltb b a l)
-    go (no l) = let h : a - b ≤ 0 = omega arith in let k : a ≤ b = omega arith in le-ltb 0 (a - b) h ∙ sym (le-ltb b a k)
+use Rattle.formulas.specs.Items.{kinds, noKwh, deviationOf, energyPay, availability, declarationCeiling, refundKwh, refund, countedDeviation, weighted, drawnPay}
 
 -- what counts of a deviation on a repair day is at most the deviation
 pub exempt-le : (repair kwh : ℕ) → (1 - repair) * kwh ≤ kwh
@@ -51,17 +39,17 @@ ceiling-most true power = omega arith
 ceiling-most false power = omega arith
 
 -- item 4: W is at most ten times the deviation
-module _ (d : Deviations) (most : ℕ) (split : sum kinds (λ i. getD (d .kwh) i 0) ≤ most) where
-  pub deviation-most : (i : ℕ) → i < kinds → getD (d .kwh) i 0 ≤ most
-  deviation-most i l = omega (arith, sum-has kinds i (λ i. getD (d .kwh) i 0) l)
+module _ (d : Deviations) (most : ℕ) (split : sum kinds (λ i. getD (d .kwh) i noKwh .0) ≤ most) where
+  pub deviation-most : (i : ℕ) → i < kinds → getD (d .kwh) i noKwh .0 ≤ most
+  deviation-most i l = omega (arith, sum-has kinds i (λ i. getD (d .kwh) i noKwh .0) l)
 
   pub counted-most : (repair : ℕ) → countedDeviation d repair .0 ≤ most
   unfolding countedDeviation sum
-  counted-most repair = omega (arith, exempt-le repair (deviationOf d 6))
+  counted-most repair = omega (arith, exempt-le repair (deviationOf d 6 .0))
 
   pub weighted-most : (repair : ℕ) → weighted d repair ≤ 10 * most
   unfolding weighted sum
-  weighted-most repair = omega (arith, exempt-le repair (deviationOf d 6))
+  weighted-most repair = omega (arith, exempt-le repair (deviationOf d 6 .0))
 
 -- item 5: at most 8 × 10^10
 pub drawn-most : (reverse net : NetKwh) (ceiling loss : ℕ) → reverse .0 ≤ 8000000 → ceiling ≤ 10000000 → drawnPay reverse net ceiling loss ≤ 80000000000

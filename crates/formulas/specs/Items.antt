@@ -18,13 +18,16 @@ firstKind = 2
 abbrev pub kinds : ℕ
 kinds = 6
 
--- d of a kind, in net kWh
-abbrev pub deviationOf : Deviations → ℕ → ℕ
-deviationOf d kind = getD (d .kwh) (kind - firstKind) 0
+-- what an index past the end reads; d of a kind, in net kWh
+abbrev pub noKwh : NetKwh
+noKwh = record { 0 = 0 }
+
+abbrev pub deviationOf : Deviations → ℕ → NetKwh
+deviationOf d kind = getD (d .kwh) (kind - firstKind) noKwh
 
 -- for the code: none is over 10^9
 abbrev pub Bounded : Deviations → Type 0
-Bounded d = (i : ℕ) → i < kinds → getD (d .kwh) i 0 ≤ 1000000000
+Bounded d = (i : ℕ) → i < kinds → getD (d .kwh) i noKwh .0 ≤ 1000000000
 
 -- "Magnitudes are rounded down, items 3 to 5 then negated"
 abbrev pub paid : ℕ → ℤ
@@ -57,7 +60,7 @@ declarationCeiling season power =
 -- "3. Refund: V(max(D − (real + d5 + d7), D − net(A), 0))": how far the capability falls short of the declaration, how far the
 -- declaration is above net(A), and the larger of the two
 abbrev pub capabilityShort : NetKwh → NetKwh → Deviations → ℕ
-capabilityShort declared real d = declared .0 - (real .0 + deviationOf d 5 + deviationOf d 7)
+capabilityShort declared real d = declared .0 - (real .0 + deviationOf d 5 .0 + deviationOf d 7 .0)
 
 abbrev pub declaredAbove : NetKwh → NetKwh → ℕ
 declaredAbove declared allowed = declared .0 - allowed .0
@@ -70,7 +73,7 @@ refund declared real d allowed cpf bar = payOf (refundKwh declared real d allowe
 
 -- "4. Test: .. q = d2 + d3 + (1 − repair) × d6"
 unfoldable pub countedDeviation : Deviations → ℕ → NetKwh
-countedDeviation d repair = record { 0 = deviationOf d 2 + deviationOf d 3 + (1 - repair) * deviationOf d 6 }
+countedDeviation d repair = record { 0 = deviationOf d 2 .0 + deviationOf d 3 .0 + (1 - repair) * deviationOf d 6 .0 }
 
 -- "Charged exactly if q > 2,000 or 20 × q > reading (unmeasured: the unit's hub energy over 10,000 − L, compared exactly)":
 -- the energy over 10,000 − L is below 20 × q exactly where the energy is below 20 × q × (10,000 − L)
@@ -80,7 +83,7 @@ isCharged q measured reading energy loss =
 
 -- "W = 10 d2 + 5 d3 + 10 (1 − repair) d6"
 unfoldable pub weighted : Deviations → ℕ → ℕ
-weighted d repair = 10 * deviationOf d 2 + 5 * deviationOf d 3 + 10 * ((1 - repair) * deviationOf d 6)
+weighted d repair = 10 * deviationOf d 2 .0 + 5 * deviationOf d 3 .0 + 10 * ((1 - repair) * deviationOf d 6 .0)
 
 -- "b = W × 125 × cpf × bar / 10^9 down"
 unfoldable pub baseCharge : ℕ → ℕ → ℕ → ℕ

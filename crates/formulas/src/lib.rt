@@ -11,13 +11,13 @@ pub const KINDS: usize = 6;
 
 // A unit's deviation by kind, from kind 2 on, in net kWh at the gate.
 pub struct Deviations {
-    pub kwh: [u64; KINDS],
+    pub kwh: [NetKwh; KINDS],
 }
 
 // The deviation of a kind.
-fn of_kind(d: Deviations, kind: usize) -> u64
+fn of_kind(d: Deviations, kind: usize) -> NetKwh
     requires { ⌜ (firstKind ≤ kind) × (kind < firstKind + kinds) ⌝ }
-    ensures { λ r. ⌜ r ≡ deviationOf d kind ⌝ }
+    ensures { λ r. ⌜ r .0 ≡ deviationOf d kind .0 ⌝ }
 {
     d.kwh[kind - 2]
 }
@@ -44,22 +44,12 @@ pub fn energy_pay(cost: u64) -> u64
     cost / 10000000
 }
 
-// max(a - b, 0)
-pub fn above(a: u64, b: u64) -> u64
-    ensures { λ r. ⌜ r ≡ a - b ⌝ }
-{
-    if a < b {
-        return 0;
-    }
-    a - b
-}
-
 // Item 2: availability beyond the commitment's gate energy.
 pub fn availability_pay(declared: NetKwh, gate: NetKwh, cpf: u64, bar: u64) -> u64
     requires { ⌜ (declared .0 ≤ 10000000) × (cpf ≤ 10000) × (bar ≤ 1000000) ⌝ }
     ensures { λ r. ⌜ r ≡ availability declared gate cpf bar ⌝ }
 {
-    energy::pay_of(NetKwh(above(declared.0, gate.0)), cpf, bar)
+    energy::pay_of(declared.above(gate), cpf, bar)
 }
 
 // Whether a day comes no later than another.
@@ -98,23 +88,18 @@ pub fn declaration_ceiling(season: bool, power: GrossKwh) -> GrossKwh
     ensures { λ r. ⌜ r ≡ declarationCeiling season power ⌝ }
 {
     if season {
-        return GrossKwh(power.0 + least(power.0 * 6 / 100, 6000));
+        return power.plus(power.percent(6).lesser(GrossKwh(6000)));
     }
-    GrossKwh(power.0 + least(power.0 * 3 / 100, 3000))
+    power.plus(power.percent(3).lesser(GrossKwh(3000)))
 }
 
 // The kWh that item 3 takes back, by D, `real`, the deviations and net(A): what `real`, d5 and d7 leave of D, or what is above net(A).
 pub fn refund_kwh(declared: NetKwh, real: NetKwh, d: Deviations, allowed: NetKwh) -> NetKwh
     ensures { λ r. ⌜ r ≡ refundKwh declared real d allowed ⌝ }
 {
-    let unable = above(declared.0, real.0);
-    let unexcused = above(unable, of_kind(d, 5));
-    let short = above(unexcused, of_kind(d, 7));
-    let over = above(declared.0, allowed.0);
-    if short < over {
-        return NetKwh(over);
-    }
-    NetKwh(short)
+    let unable = declared.above(real);
+    let short = unable.above(of_kind(d, 5)).above(of_kind(d, 7));
+    short.greater(declared.above(allowed))
 }
 
 // Item 3, a magnitude.
@@ -133,13 +118,13 @@ pub fn refund(
 }
 
 // What counts of a repair day's deviation: nothing.
-fn unless_repair(repair: u64, kwh: u64) -> u64
-    ensures { λ r. ⌜ r ≡ (1 - repair) * kwh ⌝ }
+fn unless_repair(repair: u64, kwh: NetKwh) -> NetKwh
+    ensures { λ r. ⌜ r .0 ≡ (1 - repair) * kwh .0 ⌝ }
 {
     if repair == 0 {
         return kwh;
     }
-    0
+    NetKwh(0)
 }
 
 // The counted deviation q.
@@ -147,25 +132,24 @@ pub fn counted_deviation(d: Deviations, repair: u64) -> NetKwh
     requires { ⌜ Bounded d ⌝ }
     ensures { λ r. ⌜ r ≡ countedDeviation d repair ⌝ }
 {
-    NetKwh(of_kind(d, 2) + of_kind(d, 3) + unless_repair(repair, of_kind(d, 6)))
+    let tested = of_kind(d, 2).plus(of_kind(d, 3));
+    tested.plus(unless_repair(repair, of_kind(d, 6)))
 }
 
 // Whether the counted deviation is charged: over 2,000 kWh, or twenty times it over the reading; of an unmeasured unit, twenty times it
 // at the hub over the unit's energy.
 pub fn is_charged(q: NetKwh, measured: bool, reading: NetKwh, energy: HubGrains, loss: u64) -> bool
-    requires { ⌜ (q .0 ≤ 1000000000000) × (loss ≤ 10000) ⌝ }
+    requires { ⌜ loss ≤ 10000 ⌝ }
     ensures { λ r. ⌜ r ≡ isCharged q measured reading energy loss ⌝ }
 {
-    if q.0 > 2000 {
+    if q.exceeds(NetKwh(2000)) {
         return true;
     }
-    let twenty = 20 * q.0;
+    let twenty = q.times(20);
     if measured {
-        return twenty > reading.0;
+        return twenty.exceeds(reading);
     }
-    let kept = 10000 - loss;
-    let over = above(twenty * kept, energy.0);
-    over > 0
+    energy::hub_of(twenty, loss).exceeds(energy)
 }
 
 // The weighted deviation W, in tenths of a kWh.
@@ -173,7 +157,8 @@ pub fn weighted(d: Deviations, repair: u64) -> u64
     requires { ⌜ Bounded d ⌝ }
     ensures { λ r. ⌜ r ≡ «the_weighted» d repair ⌝ }
 {
-    10 * of_kind(d, 2) + 5 * of_kind(d, 3) + 10 * unless_repair(repair, of_kind(d, 6))
+    let tested = of_kind(d, 2).weight(10) + of_kind(d, 3).weight(5);
+    tested + unless_repair(repair, of_kind(d, 6)).weight(10)
 }
 
 // The charge of the first hour, b.
@@ -227,7 +212,10 @@ fn growth(n: usize) -> u64
 fn hours_counted(since: u64) -> u64
     ensures { λ r. ⌜ r ≡ hoursCounted since ⌝ }
 {
-    least(above(since, 1), 24)
+    if since < 1 {
+        return 0;
+    }
+    least(since - 1, 24)
 }
 
 // The charge of a weighted deviation in its hour `since`: not over the exact product, and less than 130 Rial short of it.
@@ -246,8 +234,6 @@ pub fn drawn_pay(reverse: NetKwh, net: NetKwh, ceiling: u64, loss: u64) -> u64
     requires { ⌜ (reverse .0 ≤ 10000000) × (ceiling ≤ 10000000) × (loss ≤ 10000) ⌝ }
     ensures { λ r. ⌜ r ≡ drawnPay reverse net ceiling loss ⌝ }
 {
-    let drawn = above(reverse.0, net.0);
-    let priced = drawn * ceiling;
-    let product = priced * (10000 - loss);
-    product / 10000000
+    let drawn = energy::hub_of(reverse.above(net), loss);
+    energy_pay(drawn.cost(ceiling))
 }

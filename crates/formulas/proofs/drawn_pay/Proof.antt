@@ -1,10 +1,12 @@
--- The product is at most 10^18; the result is the definition.
+-- The drawn energy is at most 10^11 grains, so its cost is below 2^64; the factors of the definition stand in another order.
 -- Assumes nothing.
-use mathlib.Core.Path.{ap}
-use Prim.Native.Nat.{ℕ, _-_, _*_, _/_, _≤_}
+use mathlib.Core.Path.{_≡_, _∙_, ap}
+use Prim.Native.Nat.{ℕ, _*_, _-_, _/_, _≤_}
 use native.Mathlib.Nat.{mul-le-mul}
 use native.Mathlib.Omega.{arith}
-use Rattle.formulas.specs.Items.{drawnPay}
+use Rattle.energy.specs.declared.HubGrains.{HubGrains}
+use Rattle.energy.specs.Energy.{hubOf}
+use Rattle.formulas.specs.Items.{energyPay, drawnPay}
 use borrow.Author.Needs.{needs}
 use Rattle.formulas.proofs.drawn_pay.Statement.{statement}
 use Rattle.formulas.proofs.drawn_pay.Tie as tie
@@ -12,27 +14,36 @@ use Rattle.formulas.proofs.drawn_pay.Tie as tie
 above-requires : tie.Need-above-requires
 above-requires c κs = search needs
 
-mul-priced : tie.Need-mul-priced
-mul-priced c =
-    let a = c .before .args in
-    let d : c .above .result ≤ 10000000 = omega (arith, c .above .ensures) in
-    let p : a .ceiling ≤ 10000000 = omega arith in
-    omega (arith, mul-le-mul d p)
+hub-of-requires : tie.Need-hub-of-requires
+hub-of-requires c κs = search needs
 
-sub-product : tie.Need-sub-product
-sub-product c = search needs
+-- the grains that were drawn
+drawn : (c : tie.After-hub-of) →
+    let a = c .before .before .args in
+    c .hub-of .result .0 ≡ (a .reverse .0 - a .net .0) * (10000 - a .loss)
+unfolding hubOf
+drawn c = ap (λ (g : HubGrains). g .0) (c .hub-of .ensures) ∙ ap (λ (n : ℕ). n * (10000 - c .before .before .args .loss)) (c .before .above .ensures)
 
-mul-product : tie.Need-mul-product
-mul-product c =
-    let a = c .before .args in
-    let d : c .above .result ≤ 10000000 = omega (arith, c .above .ensures) in
-    let p : a .ceiling ≤ 10000000 = omega arith in
+cost-requires : tie.Need-cost-requires
+cost-requires c κs =
+    let a = c .before .before .args in
+    let d : a .reverse .0 - a .net .0 ≤ 10000000 = omega arith in
     let k : 10000 - a .loss ≤ 10000 = omega arith in
-    omega (arith, mul-le-mul (mul-le-mul d p) k)
+    let p : a .ceiling ≤ 10000000 = omega arith in
+    let g : c .hub-of .result .0 ≤ 100000000000 = omega (arith, drawn c, mul-le-mul d k) in
+    omega (arith, mul-le-mul g p)
+
+energy-pay-requires : tie.Need-energy-pay-requires
+energy-pay-requires c κs = search needs
 
 returns : tie.Need-returns
-unfolding drawnPay
-returns c = ap (λ (n : ℕ). n * c .before .args .ceiling * (10000 - c .before .args .loss) / 10000000) (c .above .ensures)
+unfolding energyPay drawnPay
+returns c =
+    let a = c .before .before .before .before .args in
+    let e : c .before .cost .result ≡ (a .reverse .0 - a .net .0) * a .ceiling * (10000 - a .loss) =
+    omega (arith, ap (λ (n : ℕ). n * a .ceiling) (drawn (c .before .before))) in
+    c .energy-pay .ensures ∙ ap (λ (n : ℕ). n / 10000000) e
 
 pub drawn-pay-spec : {M : Type 1} → statement M
-drawn-pay-spec = tie.close (tie.spec above-requires mul-priced sub-product mul-product returns)
+drawn-pay-spec =
+    tie.close (tie.spec above-requires hub-of-requires cost-requires energy-pay-requires returns)

@@ -1,48 +1,69 @@
--- The returns are the cases of the definition; a difference is over 0 where its first number is the larger.
+-- The returns are the cases of the definition. Past the first of them q is at most 2,000 kWh, so that twenty times it can be taken to the hub.
 -- Assumes nothing.
-use mathlib.Core.Path.{_∙_, ap}
+use mathlib.Core.Path.{_≡_, sym, _∙_, ap}
+use mathlib.Core.Bool.{false}
 use Prim.Native.Nat.{ℕ, _*_, _-_, _≤_}
-use native.Mathlib.Nat.{mul-le-mul}
 use native.Mathlib.Omega.{arith}
-use borrow.Author.Tests.{lt-ltb, le-ltb}
 use lib.Dec.{ltb}
+use Rattle.energy.specs.declared.HubGrains.{HubGrains}
+use Rattle.energy.specs.Energy.{hubOf}
+use borrow.Author.Tests.{ltb-false}
 use Rattle.formulas.specs.Items.{isCharged}
-use Rattle.formulas.proofs.Laws.{over-test}
 use borrow.Author.Needs.{needs}
 use Rattle.formulas.proofs.is_charged.Statement.{statement}
 use Rattle.formulas.proofs.is_charged.Tie as tie
 
+exceeds-requires : tie.Need-exceeds-requires
+exceeds-requires c κs = search needs
+
 returns : tie.Need-returns
 unfolding isCharged
-returns c = simp (lt-ltb _ _ (c .if1 .taken))
+returns c = rw (sym (c .before .exceeds .ensures) ∙ c .if1 .taken)
 
-mul-twenty : tie.Need-mul-twenty
-mul-twenty c = search needs
+-- past the first return
+not-over : (c : tie.Else1) → ltb 2000 (c .before .before .args .q .0) ≡ false
+not-over c = sym (c .before .exceeds .ensures) ∙ c .if1 .left
+
+at-most : (c : tie.Else1) → c .before .before .args .q .0 ≤ 2000
+at-most c = ltb-false 2000 (c .before .before .args .q .0) (not-over c)
+
+times-requires : tie.Need-times-requires
+times-requires c κs = omega (arith, at-most c)
+
+exceeds-requires-2 : tie.Need-exceeds-requires-2
+exceeds-requires-2 c κs = search needs
 
 returns-2 : tie.Need-returns-2
 unfolding isCharged
-returns-2 c = simp (le-ltb _ _ (c .before .before .before .if1 .left), c .before .if2 .taken)
+returns-2 c =
+    let a = c .before .before .before .before .before .args in
+    simp (not-over (c .before .before .before), c .before .if2 .taken)
+    (c .exceeds2 .ensures ∙ ap (λ (n : ℕ). ltb (a .reading .0) n) (c .before .before .times .ensures))
 
-sub-kept : tie.Need-sub-kept
-sub-kept c = search needs
+hub-of-requires : tie.Need-hub-of-requires
+hub-of-requires c κs = (omega (arith, at-most (c .before .before)), omega arith)
 
-mul-above : tie.Need-mul-above
-mul-above c =
-    let a = c .before .before .before .before .args in
-    let q : 20 * a .q .0 ≤ 20000000000000 = omega arith in
-    let k : 10000 - a .loss ≤ 10000 = omega arith in
-    omega (arith, mul-le-mul q k)
-
-above-requires : tie.Need-above-requires
-above-requires c κs = search needs
+exceeds-requires-3 : tie.Need-exceeds-requires-3
+exceeds-requires-3 c κs = search needs
 
 returns-3 : tie.Need-returns-3
-unfolding isCharged
+unfolding isCharged hubOf
 returns-3 c =
-    let a = c .before .before .before .before .before .args in
-    simp (le-ltb _ _ (c .before .before .before .if1 .left), c .before .if2 .left)
-    (ap (λ (n : ℕ). ltb 0 n) (c .above .ensures) ∙ over-test (20 * a .q .0 * (10000 - a .loss)) (a .energy .0))
+    let a = c .before .before .before .before .before .before .args in
+    simp (not-over (c .before .before .before .before), c .before .before .if2 .left)
+    (c .exceeds3 .ensures
+    ∙ ap (λ (g : HubGrains). ltb (a .energy .0) (g .0)) (c .before .hub-of .ensures)
+    ∙ ap (λ (n : ℕ). ltb (a .energy .0) (n * (10000 - a .loss))) (c .before .before .before .times .ensures))
 
 pub is-charged-spec : {M : Type 1} → statement M
 is-charged-spec =
-    tie.close (tie.spec returns mul-twenty returns-2 sub-kept mul-above above-requires returns-3)
+    tie.close
+    (tie.spec
+    exceeds-requires
+    returns
+    times-requires
+    exceeds-requires-2
+    returns-2
+    hub-of-requires
+    exceeds-requires-3
+    returns-3)

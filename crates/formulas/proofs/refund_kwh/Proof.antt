@@ -1,9 +1,9 @@
 -- Differences that stop at 0, one after the other, are the difference of the sum; the larger one is the definition's.
 -- Assumes nothing.
-use mathlib.Core.Path.{_≡_}
+use mathlib.Core.Path.{_≡_, _∙_, ap₂}
 use Prim.Native.Nat.{max}
 use native.Mathlib.Omega.{arith}
-use Rattle.formulas.specs.Items.{refundKwh, capabilityShort, declaredAbove}
+use Rattle.formulas.specs.Items.{refundKwh, capabilityShort}
 use borrow.Author.Needs.{needs}
 use Rattle.formulas.proofs.refund_kwh.Statement.{statement}
 use Rattle.formulas.proofs.refund_kwh.Tie as tie
@@ -26,20 +26,19 @@ above-requires-3 c κs = search needs
 above-requires-4 : tie.Need-above-requires-4
 above-requires-4 c κs = search needs
 
+greater-requires : tie.Need-greater-requires
+greater-requires c κs = search needs
+
+-- what `real`, d5 and d7 leave of D
+short : (c : tie.After-above3) →
+    let a = c .before .before .before .before .before .args in
+    c .above3 .result .0 ≡ capabilityShort (a .declared) (a .real) (a .d)
+short c = omega arith
+
 returns : tie.Need-returns
 unfolding refundKwh
 returns c =
-    let a = c .before .before .before .before .before .before .before .args in
-    let e : c .before .above4 .result ≡ max (capabilityShort (a .declared) (a .real) (a .d)) (declaredAbove (a .declared) (a .allowed)) =
-    omega (arith, c .before .before .before .before .before .before .above .ensures, c .before .before .before .before .before .of-kind .ensures, c .before .before .before .before .above2 .ensures, c .before .before .before .of-kind2 .ensures, c .before .before .above3 .ensures, c .before .above4 .ensures) in
-    λ i. record { 0 = e i }
-
-returns-2 : tie.Need-returns-2
-unfolding refundKwh
-returns-2 c =
-    let a = c .before .before .before .before .before .before .before .args in
-    let e : c .before .before .above3 .result ≡ max (capabilityShort (a .declared) (a .real) (a .d)) (declaredAbove (a .declared) (a .allowed)) =
-    omega (arith, c .before .before .before .before .before .before .above .ensures, c .before .before .before .before .before .of-kind .ensures, c .before .before .before .before .above2 .ensures, c .before .before .before .of-kind2 .ensures, c .before .before .above3 .ensures, c .before .above4 .ensures) in
+    let e = c .greater .ensures ∙ ap₂ max (short (c .before .before)) (c .before .above4 .ensures) in
     λ i. record { 0 = e i }
 
 pub refund-kwh-spec : {M : Type 1} → statement M
@@ -52,5 +51,5 @@ refund-kwh-spec =
     of-kind-requires-2
     above-requires-3
     above-requires-4
-    returns
-    returns-2)
+    greater-requires
+    returns)
