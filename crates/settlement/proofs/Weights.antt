@@ -12,8 +12,8 @@ use borrow.Author.Tests.{eq-eqb, ne-eqb}
 use lib.Dec.{eqb}
 use lib.ListN.{length, getD, set, replicate, length-set, getD-replicate}
 use lib.Seq.{getD-set-same, getD-set-other, ext-getD}
-use Rattle.finite.specs.Finite.{sum}
-use Rattle.finite.proofs.Sums.{sum-most, sum-zero, sum-has, sum-next}
+use Rattle.finite.specs.Finite.{sum, tabulate}
+use Rattle.finite.proofs.Sums.{sum-most, sum-same, sum-zero, sum-has, sum-next}
 use Rattle.finite.proofs.Tables.{length-tabulate, getD-tabulate}
 use Rattle.energy.specs.declared.NetKwh.{NetKwh}
 use Rattle.energy.specs.Energy.{netOf}
@@ -23,7 +23,7 @@ use Rattle.record.specs.declared.Span.{Span}
 use Rattle.record.specs.declared.UnitRecord.{UnitRecord}
 use Rattle.record.specs.Spans.{countedKind, spanAt, spanCount}
 use Rattle.record.specs.InRange.{SpanInRange, UnitInRange}
-use Rattle.formulas.specs.Items.{firstKind, kinds}
+use Rattle.formulas.specs.Items.{firstKind, kinds, noKwh}
 use Rattle.settlement.specs.Deviation.{shortMinutes, countedAs, proportion, proportions, deviationsOf}
 use Rattle.settlement.specs.Ranges.{SplitReady}
 
@@ -124,28 +124,35 @@ module _ (own : ℕ) (u : UnitRecord) (h : UnitInRange u) where
         λ j l. omega (arith, mul-le-mul (h .deviation) (place-most j (omega arith))),
       )
 
-  -- the parts add up to no more than the deviation
-  pub split-most : sum kinds (λ i. getD (deviationsOf own u .kwh) i 0) ≤ u .deviation .0
+  -- the parts are the shares, and add up as they do
+  parts : sum kinds (λ i. getD (deviationsOf own u .kwh) i noKwh .0) ≡ sum kinds (λ i. getD (shares (proportions own u) (u .deviation .0)) i 0)
   unfolding deviationsOf
+  parts =
+      let part : ℕ → NetKwh = λ j. record { 0 = getD (shares (proportions own u) (u .deviation .0)) j 0 } in
+      sum-same kinds (λ i. getD (tabulate kinds part) i noKwh .0) (λ i. part i .0)
+      (λ i l. ap (λ (k : NetKwh). k .0) (getD-tabulate kinds part i noKwh l))
+
+  -- to no more than the deviation
+  pub split-most : sum kinds (λ i. getD (deviationsOf own u .kwh) i noKwh .0) ≤ u .deviation .0
   split-most = go (decLt 0 (sumOf (proportions own u)))
     where
-      go : Dec (0 < sumOf (proportions own u)) → sum kinds (λ i. getD (deviationsOf own u .kwh) i 0) ≤ u .deviation .0
-      go (yes some) = omega (arith, rw proportions-length at (shares-total (proportions own u) (u .deviation .0) some))
+      go : Dec (0 < sumOf (proportions own u)) → sum kinds (λ i. getD (deviationsOf own u .kwh) i noKwh .0) ≤ u .deviation .0
+      go (yes some) = omega (arith, parts, rw proportions-length at (shares-total (proportions own u) (u .deviation .0) some))
       go (no none) =
           let w = proportions own u in
           omega (
             arith,
+            parts,
             sum-zero kinds (λ i. getD (shares w (u .deviation .0)) i 0)
                 (λ i l. ap (λ s. getD s i 0) (shares-zero w (u .deviation .0) (omega arith)) ∙ getD-replicate (length w) i 0 0 (omega (arith, proportions-length))),
           )
 
   -- to all of it where some sum is over 0, as refusal 33 sees to; a deviation of 0 has parts of 0
-  pub split-all : 0 < sumOf (proportions own u) → sum kinds (λ i. getD (deviationsOf own u .kwh) i 0) ≡ u .deviation .0
-  unfolding deviationsOf
-  split-all some = rw proportions-length at (shares-total (proportions own u) (u .deviation .0) some)
+  pub split-all : 0 < sumOf (proportions own u) → sum kinds (λ i. getD (deviationsOf own u .kwh) i noKwh .0) ≡ u .deviation .0
+  split-all some = parts ∙ rw proportions-length at (shares-total (proportions own u) (u .deviation .0) some)
 
-  pub split-none : u .deviation .0 ≡ 0 → (i : ℕ) → i < kinds → getD (deviationsOf own u .kwh) i 0 ≡ 0
-  split-none e i l = omega (arith, sum-has kinds i (λ i. getD (deviationsOf own u .kwh) i 0) l, split-most)
+  pub split-none : u .deviation .0 ≡ 0 → (i : ℕ) → i < kinds → getD (deviationsOf own u .kwh) i noKwh .0 ≡ 0
+  split-none e i l = omega (arith, sum-has kinds i (λ i. getD (deviationsOf own u .kwh) i noKwh .0) l, split-most)
 
   pub split-ready : SplitReady (deviationsOf own u)
   split-ready = omega (arith, split-most, h .deviation)

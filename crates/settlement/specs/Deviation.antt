@@ -3,6 +3,7 @@ use Prim.Native.Nat.{ℕ, _+_, _*_, _-_}
 use mathlib.Core.Bool.{cond}
 use mathlib.Core.List.{List}
 use lib.Dec.{eqb}
+use lib.ListN.{getD}
 use Rattle.finite.specs.Finite.{sum, tabulate}
 use Rattle.energy.specs.declared.NetKwh.{NetKwh}
 use Rattle.energy.specs.Energy.{netOf}
@@ -30,6 +31,9 @@ unfoldable pub proportions : ℕ → UnitRecord → List ℕ
 proportions own u = tabulate kinds (λ j. proportion own u (firstKind + j))
 
 -- "`deviation` is split into d2..d7 in proportion to [these sums], by largest remainder (deviation 0: all 0), lower kind first"
--- (crate apportion: 0 has shares of 0)
+-- (crate apportion: 0 has shares of 0, and shares are numbers, here of net kWh)
+abbrev pub deviationsBy : List ℕ → Deviations
+deviationsBy numbers = record { kwh = tabulate kinds (λ j. record { 0 = getD numbers j 0 }) }
+
 unfoldable pub deviationsOf : ℕ → UnitRecord → Deviations
-deviationsOf own u = record { kwh = shares (proportions own u) (u .deviation .0) }
+deviationsOf own u = deviationsBy (shares (proportions own u) (u .deviation .0))

@@ -22,7 +22,7 @@ ghost use Rattle.offer.specs.Offer.{offerHolds};
 ghost use Rattle.sheet.specs.Ranges.{unitAt as «sheet_unit», offerAt};
 ghost use Rattle.record.specs.Spans.{unitAt as «record_unit»};
 ghost use Rattle.record.specs.InRange.{SpanInRange, UnitInRange, InRange};
-ghost use Rattle.settlement.specs.Deviation.{shortMinutes, proportions as «the_proportions», deviationsOf};
+ghost use Rattle.settlement.specs.Deviation.{shortMinutes, proportions as «the_proportions», deviationsBy, deviationsOf};
 ghost use Rattle.settlement.specs.Hour.{noAmounts, ratesOf, energyItem, availabilityItem, refundItem, testItem, amountsOf, hourSheetWith, hourSheet};
 ghost use Rattle.settlement.specs.Refusals.{readingsTotal, allMeasured, readingsHold, noProportion, unitProportioned};
 ghost use Rattle.settlement.specs.Ranges.{HourGiven, HourDue, RatesReady, SplitReady, UnitReady, UnitsReady, placeAmounts, plantBy, hourBy, proportionsBy, Listed};
@@ -66,8 +66,7 @@ fn short_minutes(own: u64, test: NetKwh, span: Span) -> u64
     ensures { λ r. ⌜ r ≡ shortMinutes own test span ⌝ }
 {
     let able = energy::net_of(span.capability, own);
-    let short = formulas::above(test.0, able.0);
-    short * span.minutes
+    test.above(able).weight(span.minutes)
 }
 
 // The sum of each kind from kind 2 on, over a unit's spans: each adds to the kind that it counts as.
@@ -92,15 +91,28 @@ fn proportions(own: u64, u: UnitRecord) -> [u64; KINDS]
     sums
 }
 
+// The deviation by kinds, from the kinds' shares.
+fn deviations_by(shares: [u64; KINDS]) -> Deviations
+    ensures { λ r. ⌜ r ≡ deviationsBy shares ⌝ }
+{
+    let mut kwh = [NetKwh(0); KINDS];
+    let mut j: usize = 0;
+    while j < KINDS {
+        kwh[j] = NetKwh(shares[j]);
+        j += 1;
+    }
+    Deviations { kwh: kwh }
+}
+
 // The unit's deviation by kinds.
 pub fn split(own: u64, u: UnitRecord) -> Deviations
     requires { ⌜ (own ≤ 10000) × UnitInRange u ⌝ }
     ensures { λ r. ⌜ r ≡ deviationsOf own u ⌝ }
 {
     let weights = proportions(own, u);
-    let mut kwh = [0u64; KINDS];
-    apportion::apportion(&weights, u.deviation.0, &mut kwh);
-    Deviations { kwh: kwh }
+    let mut shares = [0u64; KINDS];
+    apportion::apportion(&weights, u.deviation.0, &mut shares);
+    deviations_by(shares)
 }
 
 // Item 1.
@@ -266,16 +278,15 @@ fn own_of(sheet: Sheet) -> [u64; 8]
 fn nominal_of(sheet: Sheet) -> [GrossKwh; 8]
     ensures { λ r. ⌜ r ≡ tabulate 8 (λ (k : ℕ). «sheet_unit» (sheet .unit) k .nominal) ⌝ }
 {
-    [
-        GrossKwh(sheet.unit[0].nominal.0),
-        GrossKwh(sheet.unit[1].nominal.0),
-        GrossKwh(sheet.unit[2].nominal.0),
-        GrossKwh(sheet.unit[3].nominal.0),
-        GrossKwh(sheet.unit[4].nominal.0),
-        GrossKwh(sheet.unit[5].nominal.0),
-        GrossKwh(sheet.unit[6].nominal.0),
-        GrossKwh(sheet.unit[7].nominal.0),
-    ]
+    let mut nominal = [GrossKwh(0); 8];
+    let mut k: usize = 0;
+    while k < 8 {
+        let u = sheet.unit[k];
+        let its = u.nominal;
+        nominal[k] = its;
+        k += 1;
+    }
+    nominal
 }
 
 // A unit's offer of an hour, counted from 0.
@@ -307,16 +318,15 @@ fn offers_of(sheet: Sheet, h: usize) -> [Offer; 8]
 fn real_of(hour: Record) -> [NetKwh; 8]
     ensures { λ r. ⌜ r ≡ tabulate 8 (λ (k : ℕ). «record_unit» hour k .real) ⌝ }
 {
-    [
-        NetKwh(hour.unit[0].real.0),
-        NetKwh(hour.unit[1].real.0),
-        NetKwh(hour.unit[2].real.0),
-        NetKwh(hour.unit[3].real.0),
-        NetKwh(hour.unit[4].real.0),
-        NetKwh(hour.unit[5].real.0),
-        NetKwh(hour.unit[6].real.0),
-        NetKwh(hour.unit[7].real.0),
-    ]
+    let mut real = [NetKwh(0); 8];
+    let mut k: usize = 0;
+    while k < 8 {
+        let u = hour.unit[k];
+        let its = u.real;
+        real[k] = its;
+        k += 1;
+    }
+    real
 }
 
 // What the formulas use of the sheet in an hour.
@@ -412,13 +422,13 @@ pub fn settle_hour(day: HourSheet, hour: Record, commitment: [HubKwh; 8]) -> Hou
 }
 
 // The reading of the unit at place k, 0 outside the plant.
-fn reading_at(units: u64, k: usize, u: UnitRecord) -> u64
-    ensures { λ r. ⌜ r ≡ cond (memberAt units k) (u .reading .0) 0 ⌝ }
+fn reading_at(units: u64, k: usize, u: UnitRecord) -> NetKwh
+    ensures { λ r. ⌜ r .0 ≡ cond (memberAt units k) (u .reading .0) 0 ⌝ }
 {
     if units::member_at(units, k) {
-        return u.reading.0;
+        return u.reading;
     }
-    0
+    NetKwh(0)
 }
 
 // The total of the plant's readings.
@@ -426,14 +436,14 @@ fn readings_total(hour: Record, units: u64) -> NetKwh
     requires { ⌜ InRange units hour ⌝ }
     ensures { λ r. ⌜ r ≡ readingsTotal hour units ⌝ }
 {
-    let mut total: u64 = 0;
+    let mut total = NetKwh(0);
     let mut k: usize = 0;
     while k < 8 {
         let u = hour.unit[k];
-        total += reading_at(units, k, u);
+        total = total.plus(reading_at(units, k, u));
         k += 1;
     }
-    NetKwh(total)
+    total
 }
 
 // Whether the unit at place k is measured, true outside the plant.
@@ -467,11 +477,11 @@ pub fn readings_hold(hour: Record, units: u64) -> bool
     ensures { λ r. ⌜ r ≡ readingsHold hour units ⌝ }
 {
     let total = readings_total(hour, units);
-    if hour.net.0 < total.0 {
+    if total.exceeds(hour.net) {
         return false;
     }
     if all_measured(hour, units) {
-        return total.0 == hour.net.0;
+        return total.equals(hour.net);
     }
     true
 }
@@ -497,7 +507,7 @@ fn unit_proportioned(own: u64, u: UnitRecord) -> bool
     requires { ⌜ (own ≤ 10000) × UnitInRange u ⌝ }
     ensures { λ r. ⌜ r ≡ unitProportioned own u ⌝ }
 {
-    if u.deviation.0 == 0 {
+    if u.deviation.equals(NetKwh(0)) {
         return true;
     }
     !no_proportion(own, u)

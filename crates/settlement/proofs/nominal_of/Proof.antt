@@ -1,49 +1,72 @@
--- Each entry is its unit's.
+-- The loop's invariant: the places passed have their unit's.
 -- Assumes nothing.
-use mathlib.Core.Path.{refl}
+use mathlib.Core.Path.{_≡_, refl, _∙_, ap}
+use Prim.Native.Nat.{ℕ, _-_, _≤_}
+use native.Mathlib.Omega.{arith}
+use lib.ListN.{length, length-set, take}
 use Rattle.finite.specs.Finite.{tabulate}
+use Rattle.finite.proofs.Tables.{filled-next, filled}
+use Rattle.energy.specs.declared.GrossKwh.{GrossKwh}
+use Rattle.sheet.specs.Ranges.{unitAt}
 use borrow.Author.Needs.{needs}
 use Rattle.settlement.proofs.nominal_of.Statement.{statement}
 use Rattle.settlement.proofs.nominal_of.Tie as tie
 
-element-copy-out-t5 : tie.Need-element-copy-out-t5
-element-copy-out-t5 c = search needs
+abbrev Inv-loop : tie.InvT-loop
+Inv-loop sheet nominal₀ k₀ nominal k = (k ≤ 8) × (length nominal ≡ 8) × (take k nominal ≡ tabulate k (λ i. unitAt (sheet .unit) i .nominal))
 
-element-copy-out-t9 : tie.Need-element-copy-out-t9
-element-copy-out-t9 c = search needs
+abbrev μ-loop : tie.MeasureT-loop
+μ-loop sheet nominal₀ k₀ nominal k = 8 - k
 
-element-copy-out-t13 : tie.Need-element-copy-out-t13
-element-copy-out-t13 c = search needs
-
-element-copy-out-t17 : tie.Need-element-copy-out-t17
-element-copy-out-t17 c = search needs
-
-element-copy-out-t21 : tie.Need-element-copy-out-t21
-element-copy-out-t21 c = search needs
-
-element-copy-out-t25 : tie.Need-element-copy-out-t25
-element-copy-out-t25 c = search needs
-
-element-copy-out-t29 : tie.Need-element-copy-out-t29
-element-copy-out-t29 c = search needs
-
-element-copy-out-t33 : tie.Need-element-copy-out-t33
-element-copy-out-t33 c = search needs
-
-returns : tie.Need-returns
+loop-holds : tie.Need-loop-holds Inv-loop μ-loop
 unfolding tabulate
-returns c = refl
+loop-holds c = (omega arith, refl, refl)
+
+mul-u : tie.Need-mul-u Inv-loop μ-loop
+mul-u c = search needs
+
+element-copy-out-u : tie.Need-element-copy-out-u Inv-loop μ-loop
+element-copy-out-u c = search needs
+
+mul-nominal : tie.Need-mul-nominal Inv-loop μ-loop
+mul-nominal c = search needs
+
+array-set-from-nominal : tie.Need-array-set-from-nominal Inv-loop μ-loop
+array-set-from-nominal c = search needs
+
+add-k : tie.Need-add-k Inv-loop μ-loop
+add-k c = search needs
+
+loop-less : tie.Need-loop-less Inv-loop μ-loop
+loop-less c = search needs
+
+loop-again : tie.Need-loop-again Inv-loop μ-loop
+loop-again c =
+    let a = c .before .before .before .before .args in
+    let l = c .before .before .before .loop in
+    let f : ℕ → GrossKwh = λ i. unitAt ((a .t1) .unit) i .nominal in
+    (omega arith, simp length-set (l .inv .1), filled-next f (l .nominal) (l .k) _ (omega arith) (l .inv .2) refl)
+
+returns : tie.Need-returns Inv-loop μ-loop
+returns c =
+    let a = c .before .before .args in
+    let l = c .before .loop in
+    let f : ℕ → GrossKwh = λ i. unitAt ((a .t1) .unit) i .nominal in
+    let e : l .k ≡ 8 = omega arith in
+    filled f (l .nominal) (l .k) (omega arith) (l .inv .2) ∙ ap (λ (n : ℕ). tabulate n f) e
 
 pub nominal-of-spec : {M : Type 1} → statement M
 nominal-of-spec =
     tie.close
     (tie.spec
-    element-copy-out-t5
-    element-copy-out-t9
-    element-copy-out-t13
-    element-copy-out-t17
-    element-copy-out-t21
-    element-copy-out-t25
-    element-copy-out-t29
-    element-copy-out-t33
+    Inv-loop
+    μ-loop
+    loop-holds
+    mul-u
+    element-copy-out-u
+    mul-nominal
+    array-set-from-nominal
+    add-k
+    loop-less
+    loop-again
     returns)

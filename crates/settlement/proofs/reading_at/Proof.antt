@@ -9,7 +9,7 @@ member-at-requires : tie.Need-member-at-requires
 member-at-requires c κs = search needs
 
 returns : tie.Need-returns
-returns c = rw (sym (c .before .member-at .ensures) ∙ c .if1 .taken)
+returns c = rw (sym (c .before .before .member-at .ensures) ∙ c .before .if1 .taken)
 
 returns-2 : tie.Need-returns-2
 returns-2 c = rw (sym (c .before .member-at .ensures) ∙ c .if1 .left)

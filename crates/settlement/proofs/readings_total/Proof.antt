@@ -16,7 +16,7 @@ use Rattle.settlement.proofs.readings_total.Statement.{statement}
 use Rattle.settlement.proofs.readings_total.Tie as tie
 
 abbrev Inv-loop : tie.InvT-loop
-Inv-loop units hour total₀ k₀ total k = (k ≤ 8) × (total ≤ 1000000 * k) × (total ≡ sum k (λ i. cond (memberAt units i) (unitAt hour i .reading .0) 0))
+Inv-loop units hour total₀ k₀ total k = (k ≤ 8) × (total .0 ≤ 1000000 * k) × (total .0 ≡ sum k (λ i. cond (memberAt units i) (unitAt hour i .reading .0) 0))
 
 abbrev μ-loop : tie.MeasureT-loop
 μ-loop units hour total₀ k₀ total k = 8 - k
@@ -41,11 +41,11 @@ element-copy-out-u c = search needs
 reading-at-requires : tie.Need-reading-at-requires Inv-loop μ-loop
 reading-at-requires c κs = search needs
 
-add-total : tie.Need-add-total Inv-loop μ-loop
-add-total c =
+plus-requires : tie.Need-plus-requires Inv-loop μ-loop
+plus-requires c κs =
     let start = c .before .before .before .before in
     let l = c .before .before .before .loop in
-    omega (arith, c .reading-at .ensures, l .inv .1, reading-most (start .args .t1) (start .args .units) (start .pre) (l .k))
+    omega (arith, l .inv .1, reading-most (start .args .t1) (start .args .units) (start .pre) (l .k))
 
 add-k : tie.Need-add-k Inv-loop μ-loop
 add-k c = search needs
@@ -55,10 +55,12 @@ loop-less c = search needs
 
 loop-again : tie.Need-loop-again Inv-loop μ-loop
 loop-again c =
-    let start = c .before .before .before .before in
-    let l = c .before .before .before .loop in
-    let e = c .reading-at .ensures in
-    (omega arith, omega (arith, e, l .inv .1, reading-most (start .args .t1) (start .args .units) (start .pre) (l .k)), omega (arith, e, l .inv .2, sum-next (l .k) (λ i. cond (memberAt (start .args .units) i) (unitAt (start .args .t1) i .reading .0) 0)))
+    let start = c .before .before .before .before .before in
+    let l = c .before .before .before .before .loop in (
+      omega arith,
+      omega (arith, l .inv .1, reading-most (start .args .t1) (start .args .units) (start .pre) (l .k)),
+      omega (arith, l .inv .2, sum-next (l .k) (λ i. cond (memberAt (start .args .units) i) (unitAt (start .args .t1) i .reading .0) 0)),
+    )
 
 returns : tie.Need-returns Inv-loop μ-loop
 unfolding readingsTotal
@@ -79,7 +81,7 @@ readings-total-spec =
     mul-u
     element-copy-out-u
     reading-at-requires
-    add-total
+    plus-requires
     add-k
     loop-less
     loop-again

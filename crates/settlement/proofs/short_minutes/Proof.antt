@@ -11,13 +11,13 @@ use Rattle.settlement.proofs.short_minutes.Statement.{statement}
 use Rattle.settlement.proofs.short_minutes.Tie as tie
 
 -- the code's product is the definition's
-product : (c : tie.After-struct-known) →
-    let a = c .before .before .before .args in
-    c .before .above .result * a .span .minutes ≡ shortMinutes (a .own) (a .test) (a .span)
+product : (c : tie.After-above) →
+    let a = c .before .before .args in
+    c .above .result .0 * a .span .minutes ≡ shortMinutes (a .own) (a .test) (a .span)
 unfolding shortMinutes
 product c =
-    let a = c .before .before .before .args in
-    ap (λ (n : ℕ). n * a .span .minutes) (c .before .above .ensures ∙ ap (λ (n : NetKwh). a .test .0 - n .0) (c .before .before .net-of .ensures))
+    let a = c .before .before .args in
+    ap (λ (n : ℕ). n * a .span .minutes) (c .above .ensures ∙ ap (λ (n : NetKwh). a .test .0 - n .0) (c .before .net-of .ensures))
 
 net-of-requires : tie.Need-net-of-requires
 net-of-requires c κs = (omega (arith, c .pre .2 .capability), c .pre .0)
@@ -25,12 +25,11 @@ net-of-requires c κs = (omega (arith, c .pre .2 .capability), c .pre .0)
 above-requires : tie.Need-above-requires
 above-requires c κs = search needs
 
-mul-result : tie.Need-mul-result
-mul-result c = let a = c .before .before .before .args in omega (arith, product c, short-most (a .own) (a .test) (a .span) (c .before .before .before .pre .1) (c .before .before .before .pre .2))
+weight-requires : tie.Need-weight-requires
+weight-requires c κs = let start = c .before .before in omega (arith, product c, short-most (start .args .own) (start .args .test) (start .args .span) (start .pre .1) (start .pre .2))
 
 returns : tie.Need-returns
-unfolding shortMinutes
-returns c = product c
+returns c = c .weight .ensures ∙ product (c .before)
 
 pub short-minutes-spec : {M : Type 1} → statement M
-short-minutes-spec = tie.close (tie.spec net-of-requires above-requires mul-result returns)
+short-minutes-spec = tie.close (tie.spec net-of-requires above-requires weight-requires returns)

@@ -5,7 +5,7 @@ use Prim.Native.Nat.{ℕ}
 use mathlib.Core.List.{List}
 use lib.ListN.{length}
 use Rattle.apportion.specs.Shares.{shares}
-use Rattle.settlement.specs.Deviation.{proportions, deviationsOf}
+use Rattle.settlement.specs.Deviation.{proportions, deviationsBy, deviationsOf}
 use Rattle.settlement.proofs.Weights.{proportions-length, proportions-fit}
 use borrow.Author.Needs.{needs}
 use Rattle.settlement.proofs.split.Statement.{statement}
@@ -28,12 +28,15 @@ apportion-requires c κs =
     let f = proportions-fit (a .own) (a .u) (start .pre .1) in
     (sym (ap length w ∙ proportions-length (a .own) (a .u) (start .pre .1)), rw w (f .0), rw w (f .1))
 
+deviations-by-requires : tie.Need-deviations-by-requires
+deviations-by-requires c κs = search needs
+
 returns : tie.Need-returns
 unfolding deviationsOf
 returns c =
-    let a = c .before .before .before .before .before .args in
-    let e = c .before .apportion .ensures ∙ ap (λ (w : List ℕ). shares w (a .u .deviation .0)) (c .before .before .before .before .proportions .ensures) in
-    λ i. record { kwh = e i }
+    let a = c .before .before .before .before .before .before .args in
+    let e = c .before .before .apportion .ensures ∙ ap (λ (w : List ℕ). shares w (a .u .deviation .0)) (c .before .before .before .before .before .proportions .ensures) in
+    c .deviations-by .ensures ∙ ap deviationsBy e
 
 pub split-spec : {M : Type 1} → statement M
 split-spec =
@@ -43,4 +46,5 @@ split-spec =
     slice-aggregate-apportion
     slice-aggregate-apportion-2
     apportion-requires
+    deviations-by-requires
     returns)

@@ -6,7 +6,7 @@ use native.Mathlib.Omega.{arith}
 use Rattle.energy.specs.declared.NetKwh.{NetKwh}
 use Rattle.formulas.specs.Items.{owed, countedDeviation, isCharged, weighted, chargeOf}
 use Rattle.formulas.proofs.Amounts.{back}
-use Rattle.formulas.proofs.Laws.{deviation-most, counted-most, weighted-most}
+use Rattle.formulas.proofs.Laws.{deviation-most, weighted-most}
 use Rattle.formulas.proofs.Charge.{charge-most}
 use Rattle.settlement.specs.Hour.{testItem}
 use Rattle.settlement.proofs.test_item.Statement.{statement}
@@ -31,9 +31,7 @@ counted-deviation-requires : tie.Need-counted-deviation-requires
 counted-deviation-requires c κs = λ i l. omega (arith, deviation-most (c .args .d) 1000000 (c .pre .1) i l)
 
 is-charged-requires : tie.Need-is-charged-requires
-is-charged-requires c κs =
-    let start = c .before in
-    (omega (arith, counted-most (start .args .d) 1000000 (start .pre .1) (start .args .repair), ap (λ (n : NetKwh). n .0) (c .counted-deviation .ensures)), omega (arith, start .pre .0 .loss))
+is-charged-requires c κs = omega (arith, c .before .pre .0 .loss)
 
 weighted-requires : tie.Need-weighted-requires
 weighted-requires c κs = λ i l. omega (arith, deviation-most (c .before .before .before .args .d) 1000000 (c .before .before .before .pre .1) i l)
