@@ -16,7 +16,7 @@ use Rattle.offer.specs.declared.Offer.{Offer}
 use Rattle.offer.specs.Modified.{costTo}
 use Rattle.offer.proofs.Costs.{cost-le}
 use Rattle.record.specs.declared.UnitRecord.{UnitRecord}
-use Rattle.formulas.specs.Items.{owed, declarationCeiling, refund, isCharged, countedDeviation, weighted, hoursCounted, chargeOf, NearExact}
+use Rattle.formulas.specs.Items.{owed, refund, isCharged, countedDeviation, weighted, hoursCounted, chargeOf, NearExact}
 use Rattle.formulas.proofs.Amounts.{owed-size}
 use Rattle.formulas.proofs.Laws.{energy-pay-most, availability-most, refund-most, weighted-most}
 use Rattle.formulas.proofs.Charge.{charge-most, charge-near}
@@ -25,10 +25,6 @@ use Rattle.settlement.specs.Deviation.{deviationsOf}
 use Rattle.settlement.specs.Hour.{noAmounts, energyItem, availabilityItem, refundItem, testItem, amountsOf}
 use Rattle.settlement.specs.Ranges.{RatesReady, UnitReady}
 use Rattle.settlement.proofs.Weights.{split-ready}
-
--- net(A)
-abbrev allowedNet : Rates → ℕ → UnitRecord → NetKwh
-allowedNet rates own u = netOf (declarationCeiling (rates .season) (u .power)) own
 
 -- 10^11
 abbrev pub most : ℕ
@@ -48,6 +44,9 @@ pub none-most : (i : ℕ) → natAbs (getD (noAmounts .item) i (pos 0)) ≤ most
 none-most i =
     each-most (pos 0) (pos 0) (pos 0) (pos 0) (pos 0) (omega arith) (omega arith) (omega arith) (omega arith) (omega arith) i
 
+within : {n m : ℕ} → n ≤ m → m ≤ most → n ≤ most
+within h k = omega arith
+
 module _ (rates : Rates) (own : ℕ) (offer : Offer) (commitment : HubKwh) (u : UnitRecord) (energy : HubGrains) (rated : RatesReady rates) (h : UnitReady own offer commitment u energy) where
   declared-most : netOf (u .declared) own .0 ≤ 1000000
   declared-most = omega (arith, net-le (u .declared) own, h .in-range .declared)
@@ -66,13 +65,13 @@ module _ (rates : Rates) (own : ℕ) (offer : Offer) (commitment : HubKwh) (u : 
   availability-item-most =
       availability-most (netOf (u .declared) own) (rates .cpf) (rates .bar) declared-most (rated .cpf) (rated .bar) (gateOf commitment (rates .loss))
 
-  refund-item-most : natAbs (refundItem rates (netOf (u .declared) own) (u .real) (deviationsOf own u) (allowedNet rates own u)) ≤ 10000000000
+  refund-item-most : (real allowed : NetKwh) → natAbs (refundItem rates (netOf (u .declared) own) real (deviationsOf own u) allowed) ≤ 10000000000
   unfolding refundItem
-  refund-item-most =
+  refund-item-most real allowed =
       omega (
         arith,
-        owed-size (refund (netOf (u .declared) own) (u .real) (deviationsOf own u) (allowedNet rates own u) (rates .cpf) (rates .bar)),
-        refund-most (netOf (u .declared) own) (rates .cpf) (rates .bar) declared-most (rated .cpf) (rated .bar) (u .real) (deviationsOf own u) (allowedNet rates own u),
+        owed-size (refund (netOf (u .declared) own) real (deviationsOf own u) allowed (rates .cpf) (rates .bar)),
+        refund-most (netOf (u .declared) own) (rates .cpf) (rates .bar) declared-most (rated .cpf) (rated .bar) real (deviationsOf own u) allowed,
       )
 
   -- item 4: W is at most 10^7
@@ -80,9 +79,9 @@ module _ (rates : Rates) (own : ℕ) (offer : Offer) (commitment : HubKwh) (u : 
   w-range =
       let w = weighted-most (deviationsOf own u) 1000000 (split-ready own u (h .in-range)) (u .repair) in (omega arith, rated .cpf, rated .bar)
 
-  test-item-most : natAbs (testItem rates (u .measured) (u .reading) (u .repair) (u .since) (deviationsOf own u) energy) ≤ 41000000000
+  test-item-most : (measured : Bool) (reading : NetKwh) → natAbs (testItem rates measured reading (u .repair) (u .since) (deviationsOf own u) energy) ≤ 41000000000
   unfolding testItem
-  test-item-most = by (isCharged (countedDeviation (deviationsOf own u) (u .repair)) (u .measured) (u .reading) energy (rates .loss))
+  test-item-most measured reading = by (isCharged (countedDeviation (deviationsOf own u) (u .repair)) measured reading energy (rates .loss))
     where
       charge : ℕ
       charge = chargeOf (weighted (deviationsOf own u) (u .repair)) (u .since) (rates .cpf) (rates .bar)
@@ -104,8 +103,5 @@ module _ (rates : Rates) (own : ℕ) (offer : Offer) (commitment : HubKwh) (u : 
   pub unit-most : (drawn : ℕ) → drawn ≤ 80000000000 → (i : ℕ) → natAbs (getD (amountsOf rates own offer commitment u energy drawn .item) i (pos 0)) ≤ most
   unfolding amountsOf
   unit-most drawn l =
-      each-most (energyItem offer commitment energy) (availabilityItem rates (netOf (u .declared) own) commitment)
-      (refundItem rates (netOf (u .declared) own) (u .real) (deviationsOf own u) (allowedNet rates own u))
-      (testItem rates (u .measured) (u .reading) (u .repair) (u .since) (deviationsOf own u) energy) (owed drawn)
-      (omega (arith, energy-item-most)) (omega (arith, availability-item-most)) (omega (arith, refund-item-most)) (omega (arith, test-item-most))
-      (omega (arith, owed-size drawn))
+      each-most _ _ _ _ _ (within energy-item-most (omega arith)) (within availability-item-most (omega arith))
+      (within (refund-item-most _ _) (omega arith)) (within (test-item-most _ _) (omega arith)) (omega (arith, owed-size drawn))
