@@ -1,10 +1,11 @@
 // A unit's offer for an hour: its test, and the modified offer's prices and sums.
 ghost use mathlib.Core.Path.{_≡_};
 ghost use mathlib.Core.Bool.{true};
-ghost use Prim.Native.Nat.{_-_, _≤_, _<_, min, max};
+ghost use Prim.Native.Nat.{_-_, _≤_, _<_};
 ghost use Rattle.finite.specs.Finite.{every};
 ghost use Rattle.offer.specs.Offer.{noOffer, stepsAllowed, inRange, inOrder, stepInRange, stepInOrder, offerHolds, lastQuantity};
 ghost use Rattle.offer.specs.Modified.{IsBlock, costBetween};
+use energy::HubGrains;
 use energy::HubKwh;
 
 // Up to ten steps: a cumulative quantity and a price in Rial/MWh. Past the number of steps nothing is looked at.
@@ -17,7 +18,7 @@ pub struct Offer {
 // Grains that follow one another at one price, up to the grain `end`, which is no longer one of them.
 pub struct Block {
     pub price: u64,
-    pub end: u64,
+    pub end: HubGrains,
 }
 
 // No steps.
@@ -45,10 +46,10 @@ fn steps_allowed(steps: usize) -> bool
 fn in_range(quantity: HubKwh, price: u64) -> bool
     ensures { λ r. ⌜ r ≡ inRange quantity price ⌝ }
 {
-    if quantity.0 < 1 {
+    if HubKwh(1).exceeds(quantity) {
         return false;
     }
-    if quantity.0 > 1000000 {
+    if quantity.exceeds(HubKwh(1000000)) {
         return false;
     }
     price <= 10000000
@@ -58,7 +59,7 @@ fn in_range(quantity: HubKwh, price: u64) -> bool
 fn in_order(quantity: HubKwh, price: u64, next_quantity: HubKwh, next_price: u64) -> bool
     ensures { λ r. ⌜ r ≡ inOrder quantity price «next_quantity» «next_price» ⌝ }
 {
-    if quantity.0 < next_quantity.0 {
+    if next_quantity.exceeds(quantity) {
         return price <= next_price;
     }
     false
@@ -126,38 +127,17 @@ pub fn last_quantity(offer: Offer) -> HubKwh
     offer.quantity[last]
 }
 
-// The lesser of two numbers.
-fn least(a: u64, b: u64) -> u64
-    ensures { λ r. ⌜ r ≡ min a b ⌝ }
-{
-    if a < b { a } else { b }
-}
-
-// The greater of two numbers.
-fn greatest(a: u64, b: u64) -> u64
-    ensures { λ r. ⌜ r ≡ max a b ⌝ }
-{
-    if a < b { b } else { a }
-}
-
-// How many grains there are from `at` up to `end`: none where the end is not past it.
-fn grains_up_to(at: u64, end: u64) -> u64
-    ensures { λ r. ⌜ r ≡ end - at ⌝ }
-{
-    if at < end { end - at } else { 0 }
-}
-
 // The grains from i on, below `limit`, that have the price of grain i under the modified offer: the steps that end at or before grain i
 // are passed, and the last one has no end.
-pub fn block_at(offer: Offer, commitment: HubKwh, i: u64, limit: u64) -> Block
-    requires { ⌜ (offerHolds offer ≡ true) × (commitment .0 ≤ 1000000000) × (i < limit) ⌝ }
-    ensures { λ r. ⌜ IsBlock offer commitment i limit (r .price) (r .end) ⌝ }
+pub fn block_at(offer: Offer, commitment: HubKwh, i: HubGrains, limit: HubGrains) -> Block
+    requires { ⌜ (offerHolds offer ≡ true) × (commitment .0 ≤ 1000000000) × (i .0 < limit .0) ⌝ }
+    ensures { λ r. ⌜ IsBlock offer commitment (i .0) (limit .0) (r .price) (r .end .0) ⌝ }
 {
     let committed = energy::grains_of(commitment);
-    if i < committed.0 {
+    if committed.exceeds(i) {
         return Block {
             price: 0,
-            end: least(committed.0, limit),
+            end: committed.lesser(limit),
         };
     }
     let last = offer.steps - 1;
@@ -165,11 +145,11 @@ pub fn block_at(offer: Offer, commitment: HubKwh, i: u64, limit: u64) -> Block
     while s < last {
         let quantity = offer.quantity[s];
         let end = energy::grains_of(quantity);
-        if i < end.0 {
+        if end.exceeds(i) {
             let price = offer.price[s];
             return Block {
                 price: price,
-                end: least(end.0, limit),
+                end: end.lesser(limit),
             };
         }
         s += 1;
@@ -183,12 +163,12 @@ pub fn block_at(offer: Offer, commitment: HubKwh, i: u64, limit: u64) -> Block
 
 // What the grains from `from` up to `to` cost under the modified offer, undivided: nothing up to the commitment, then step by step; the
 // last step has no end.
-pub fn cost_between(offer: Offer, commitment: HubKwh, from: u64, to: u64) -> u64
-    requires { ⌜ (offerHolds offer ≡ true) × (commitment .0 ≤ 1000000000) × (from ≤ to) × (to ≤ 100000000000) ⌝ }
-    ensures { λ r. ⌜ r ≡ costBetween offer commitment from to ⌝ }
+pub fn cost_between(offer: Offer, commitment: HubKwh, from: HubGrains, to: HubGrains) -> u64
+    requires { ⌜ (offerHolds offer ≡ true) × (commitment .0 ≤ 1000000000) × (from .0 ≤ to .0) × (to .0 ≤ 100000000000) ⌝ }
+    ensures { λ r. ⌜ r ≡ costBetween offer commitment (from .0) (to .0) ⌝ }
 {
     let committed = energy::grains_of(commitment);
-    let mut at = greatest(from, committed.0);
+    let mut at = from.greater(committed);
     let mut cost: u64 = 0;
     let last = offer.steps - 1;
     let mut s: usize = 0;
@@ -196,10 +176,10 @@ pub fn cost_between(offer: Offer, commitment: HubKwh, from: u64, to: u64) -> u64
         let quantity = offer.quantity[s];
         let end = energy::grains_of(quantity);
         let price = offer.price[s];
-        cost += grains_up_to(at, least(end.0, to)) * price;
-        at = greatest(at, end.0);
+        cost += end.lesser(to).above(at).cost(price);
+        at = at.greater(end);
         s += 1;
     }
     let last_price = offer.price[s];
-    cost + grains_up_to(at, to) * last_price
+    cost + to.above(at).cost(last_price)
 }

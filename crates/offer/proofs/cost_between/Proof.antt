@@ -4,6 +4,7 @@
 use mathlib.Core.Path.{_≡_, refl, ap, sym, _∙_}
 use Prim.Native.Nat.{ℕ, _+_, _*_, _≤_, _-_, max}
 use native.Mathlib.Omega.{arith}
+use borrow.Author.Needs.{needs}
 use Rattle.energy.specs.declared.HubGrains.{HubGrains}
 use Rattle.energy.specs.Energy.{grainsOf}
 use Rattle.offer.specs.Offer.{stepPrice}
@@ -11,38 +12,37 @@ use Rattle.offer.specs.Modified.{costBetween}
 use Rattle.offer.proofs.Costs.{cost-between-le}
 use Rattle.offer.proofs.Steps.{holds}
 use Rattle.offer.proofs.Quick.{costOn, cost-steps, cost-next, cost-last}
-use borrow.Author.Needs.{needs}
 use Rattle.offer.proofs.cost_between.Statement.{statement}
 use Rattle.offer.proofs.cost_between.Tie as tie
 
 abbrev Inv-loop : tie.InvT-loop
-Inv-loop from to offer at₀ cost₀ last s₀ at cost s =
+Inv-loop to offer at₀ cost₀ last s₀ at cost s =
     (s ≤ last)
-    × (cost + costOn offer s at to ≡ costOn offer 0 at₀ to)
-    × (costOn offer 0 at₀ to ≤ 1000000000000000000)
+    × (cost + costOn offer s (at .0) (to .0) ≡ costOn offer 0 (at₀ .0) (to .0))
+    × (costOn offer 0 (at₀ .0) (to .0) ≤ 1000000000000000000)
 
 abbrev μ-loop : tie.MeasureT-loop
-μ-loop from to offer at₀ cost₀ last s₀ at cost s = last - s
+μ-loop to offer at₀ cost₀ last s₀ at cost s = last - s
 
 -- the cost is that of the steps, from `from` or the commitment on, and bounded
-total : (c : tie.After-greatest Inv-loop μ-loop) → costBetween (c .before .before .args .t1) (c .before .before .args .commitment) (c .before .before .args .from) (c .before .before .args .to) ≡ costOn (c .before .before .args .t1) 0 (c .greatest .result) (c .before .before .args .to)
+total : (c : tie.After-greater Inv-loop μ-loop) → costBetween (c .before .before .args .t1) (c .before .before .args .commitment) (c .before .before .args .from .0) (c .before .before .args .to .0) ≡ costOn (c .before .before .args .t1) 0 (c .greater .result .0) (c .before .before .args .to .0)
 total c =
     let a = c .before .before .args in
     let g = ap (λ (n : HubGrains). n .0) (c .before .grains-of .ensures) in
-    let e : max (a .from) (grainsOf (a .commitment) .0) ≡ c .greatest .result = omega arith in
-    cost-steps (a .t1) (a .commitment) (a .from) (a .to) (c .before .before .pre .2) ∙ ap (λ (n : ℕ). costOn (a .t1) 0 n (a .to)) e
+    let e : max (a .from .0) (grainsOf (a .commitment) .0) ≡ c .greater .result .0 = omega (arith, g, c .greater .ensures) in
+    cost-steps (a .t1) (a .commitment) (a .from .0) (a .to .0) (c .before .before .pre .2) ∙ ap (λ (n : ℕ). costOn (a .t1) 0 n (a .to .0)) e
 
 grains-of-requires : tie.Need-grains-of-requires Inv-loop μ-loop
 grains-of-requires c κs = search needs
 
-greatest-requires : tie.Need-greatest-requires Inv-loop μ-loop
-greatest-requires c κs = search needs
+greater-requires : tie.Need-greater-requires Inv-loop μ-loop
+greater-requires c κs = search needs
 
 sub-last : tie.Need-sub-last Inv-loop μ-loop
 sub-last c = holds (c .before .before .args .t1) (c .before .before .pre .0) .least
 
 loop-holds : tie.Need-loop-holds Inv-loop μ-loop
-loop-holds c = (omega arith, omega arith, omega (arith, total c, cost-between-le (c .before .before .args .t1) (c .before .before .args .commitment) (c .before .before .pre .0) (c .before .before .args .from) (c .before .before .args .to) (omega arith)))
+loop-holds c = (omega arith, omega arith, omega (arith, total c, cost-between-le (c .before .before .args .t1) (c .before .before .args .commitment) (c .before .before .pre .0) (c .before .before .args .from .0) (c .before .before .args .to .0) (c .before .before .pre .2), c .before .before .pre .3))
 
 mul-quantity : tie.Need-mul-quantity Inv-loop μ-loop
 mul-quantity c = omega (arith, holds (c .before .before .before .before .args .t1) (c .before .before .before .before .pre .0) .most)
@@ -59,28 +59,29 @@ mul-price c = omega (arith, holds (c .before .before .before .before .before .be
 element-copy-out-price : tie.Need-element-copy-out-price Inv-loop μ-loop
 element-copy-out-price c = omega (arith, holds (c .before .before .before .before .before .before .args .t1) (c .before .before .before .before .before .before .pre .0) .most)
 
-least-requires : tie.Need-least-requires Inv-loop μ-loop
-least-requires c κs = search needs
+lesser-requires : tie.Need-lesser-requires Inv-loop μ-loop
+lesser-requires c κs = search needs
 
-grains-up-to-requires : tie.Need-grains-up-to-requires Inv-loop μ-loop
-grains-up-to-requires c κs = search needs
+above-requires : tie.Need-above-requires Inv-loop μ-loop
+above-requires c κs = search needs
 
 -- a turn: the step's grains, then the later steps from the place `next` on
-turn : (c : tie.After-grains-up-to Inv-loop μ-loop) (next : ℕ) → next ≡ max (c .before .before .before .before .before .before .loop .at) (c .before .before .before .grains-of2 .result .0) → costOn (c .before .before .before .before .before .before .before .before .before .args .t1) (c .before .before .before .before .before .before .loop .s) (c .before .before .before .before .before .before .loop .at) (c .before .before .before .before .before .before .before .before .before .args .to) ≡ c .grains-up-to .result * stepPrice (c .before .before .before .before .before .before .before .before .before .args .t1) (c .before .before .before .before .before .before .loop .s) + costOn (c .before .before .before .before .before .before .before .before .before .args .t1) (c .before .before .before .before .before .before .loop .s + 1) next (c .before .before .before .before .before .before .before .before .before .args .to)
+turn : (c : tie.After-above Inv-loop μ-loop) (next : ℕ) → next ≡ max (c .before .before .before .before .before .before .loop .at .0) (c .before .before .before .grains-of2 .result .0) → costOn (c .before .before .before .before .before .before .before .before .before .args .t1) (c .before .before .before .before .before .before .loop .s) (c .before .before .before .before .before .before .loop .at .0) (c .before .before .before .before .before .before .before .before .before .args .to .0) ≡ c .above .result .0 * stepPrice (c .before .before .before .before .before .before .before .before .before .args .t1) (c .before .before .before .before .before .before .loop .s) + costOn (c .before .before .before .before .before .before .before .before .before .args .t1) (c .before .before .before .before .before .before .loop .s + 1) next (c .before .before .before .before .before .before .before .before .before .args .to .0)
 turn c next e =
     let a = c .before .before .before .before .before .before .before .before .before .args in
     let l = c .before .before .before .before .before .before .loop in
     let q = ap (λ (n : HubGrains). n .0) (c .before .before .before .grains-of2 .ensures) in
-    cost-next (a .t1) (l .s) (l .at) (a .to) (c .grains-up-to .result) next (omega arith) (omega arith) (omega arith)
+    cost-next (a .t1) (l .s) (l .at .0) (a .to .0) (c .above .result .0) next (c .before .before .before .before .before .loop-test .taken)
+    (omega (arith, q, c .above .ensures, c .before .lesser .ensures)) (omega (arith, q, e))
 
-mul-cost : tie.Need-mul-cost Inv-loop μ-loop
-mul-cost c = omega (arith, turn c _ refl, c .before .before .before .before .before .before .loop .inv)
+cost-requires : tie.Need-cost-requires Inv-loop μ-loop
+cost-requires c κs = omega (arith, turn c _ refl, c .before .before .before .before .before .before .loop .inv)
 
 add-cost : tie.Need-add-cost Inv-loop μ-loop
-add-cost c = omega (arith, turn c _ refl, c .before .before .before .before .before .before .loop .inv)
+add-cost c = omega (arith, c .cost .ensures, turn (c .before) _ refl, c .before .before .before .before .before .before .before .loop .inv)
 
-greatest-requires-2 : tie.Need-greatest-requires-2 Inv-loop μ-loop
-greatest-requires-2 c κs = search needs
+greater-requires-2 : tie.Need-greater-requires-2 Inv-loop μ-loop
+greater-requires-2 c κs = search needs
 
 add-s : tie.Need-add-s Inv-loop μ-loop
 add-s c = search needs
@@ -90,8 +91,8 @@ loop-less c = search needs
 
 loop-again : tie.Need-loop-again Inv-loop μ-loop
 loop-again c =
-    let i = c .before .before .before .before .before .before .before .loop .inv in
-    (omega arith, omega (arith, turn (c .before) (c .greatest2 .result) (c .greatest2 .ensures)), i .2)
+    let i = c .before .before .before .before .before .before .before .before .loop .inv in
+    (omega arith, omega (arith, c .before .cost .ensures, turn (c .before .before) (c .greater2 .result .0) (c .greater2 .ensures)), i .2)
 
 mul-last-price : tie.Need-mul-last-price Inv-loop μ-loop
 mul-last-price c = omega (arith, holds (c .before .before .before .before .args .t1) (c .before .before .before .before .pre .0) .most)
@@ -99,24 +100,24 @@ mul-last-price c = omega (arith, holds (c .before .before .before .before .args 
 element-copy-out-last-price : tie.Need-element-copy-out-last-price Inv-loop μ-loop
 element-copy-out-last-price c = omega (arith, holds (c .before .before .before .before .args .t1) (c .before .before .before .before .pre .0) .most, holds (c .before .before .before .before .args .t1) (c .before .before .before .before .pre .0) .least)
 
-grains-up-to-requires-2 : tie.Need-grains-up-to-requires-2 Inv-loop μ-loop
-grains-up-to-requires-2 c κs = search needs
+above-requires-2 : tie.Need-above-requires-2 Inv-loop μ-loop
+above-requires-2 c κs = search needs
 
 -- the last step, with all grains that are left
-left : (c : tie.After-grains-up-to2 Inv-loop μ-loop) → costOn (c .before .before .before .before .before .before .args .t1) (c .before .before .before .loop .s) (c .before .before .before .loop .at) (c .before .before .before .before .before .before .args .to) ≡ c .grains-up-to2 .result * stepPrice (c .before .before .before .before .before .before .args .t1) (c .before .before .before .loop .s)
+left : (c : tie.After-above2 Inv-loop μ-loop) → costOn (c .before .before .before .before .before .before .args .t1) (c .before .before .before .loop .s) (c .before .before .before .loop .at .0) (c .before .before .before .before .before .before .args .to .0) ≡ c .above2 .result .0 * stepPrice (c .before .before .before .before .before .before .args .t1) (c .before .before .before .loop .s)
 left c =
     let a = c .before .before .before .before .before .before .args in
     let l = c .before .before .before .loop in
-    cost-last (a .t1) (l .s) (l .at) (a .to) (omega arith) ∙ ap (λ (n : ℕ). n * stepPrice (a .t1) (l .s)) (sym (c .grains-up-to2 .ensures))
+    cost-last (a .t1) (l .s) (l .at .0) (a .to .0) (omega arith) ∙ ap (λ (n : ℕ). n * stepPrice (a .t1) (l .s)) (sym (c .above2 .ensures))
 
-mul-result : tie.Need-mul-result Inv-loop μ-loop
-mul-result c = omega (arith, left c, c .before .before .before .loop .inv)
+cost-requires-2 : tie.Need-cost-requires-2 Inv-loop μ-loop
+cost-requires-2 c κs = omega (arith, left c, c .before .before .before .loop .inv)
 
 add-result : tie.Need-add-result Inv-loop μ-loop
-add-result c = omega (arith, left c, c .before .before .before .loop .inv)
+add-result c = omega (arith, c .cost2 .ensures, left (c .before), c .before .before .before .before .loop .inv)
 
 returns : tie.Need-returns Inv-loop μ-loop
-returns c = omega (arith, total (c .before .before .before .before), left c, c .before .before .before .loop .inv)
+returns c = omega (arith, c .cost2 .ensures, total (c .before .before .before .before .before), left (c .before), c .before .before .before .before .loop .inv)
 
 pub cost-between-spec : {M : Type 1} → statement M
 cost-between-spec =
@@ -125,7 +126,7 @@ cost-between-spec =
     Inv-loop
     μ-loop
     grains-of-requires
-    greatest-requires
+    greater-requires
     sub-last
     loop-holds
     mul-quantity
@@ -133,17 +134,17 @@ cost-between-spec =
     grains-of-requires-2
     mul-price
     element-copy-out-price
-    least-requires
-    grains-up-to-requires
-    mul-cost
+    lesser-requires
+    above-requires
+    cost-requires
     add-cost
-    greatest-requires-2
+    greater-requires-2
     add-s
     loop-less
     loop-again
     mul-last-price
     element-copy-out-last-price
-    grains-up-to-requires-2
-    mul-result
+    above-requires-2
+    cost-requires-2
     add-result
     returns)
