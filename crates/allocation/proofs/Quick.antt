@@ -49,14 +49,12 @@ module _ (offers : List Offer) (commitments : List HubKwh) (limits : List HubGra
     round-places : (s : State) (q : Pick) → Placed h z s → nextUnit (pricesOf offers commitments) (grainsAt limits) 8 (s .given) ≡ q → Placed h z (roundTo s q)
     unfolding roundTo
     round-places s none p e =
-        let z' : s .left - s .left ≡ 0 = omega arith in
         record {
           long = p .long;
           less = omega arith;
           same =
-              further (pricesOf offers commitments) (grainsAt limits) h (s .left) (s .left) z (s .given) (s .given) (p .less) (omega arith)
-              (p .same) (place-none (pricesOf offers commitments) (grainsAt limits) 8 (s .given) e (s .left))
-              ∙ ap (λ (n : ℕ). place (pricesOf offers commitments) (grainsAt limits) 8 (h - n) z) z';
+              further (pricesOf offers commitments) (grainsAt limits) (h - s .left) (s .left) (h - 0) z (s .given) (s .given)
+              (omega (arith, p .less)) (p .same) (place-none (pricesOf offers commitments) (grainsAt limits) 8 (s .given) e (s .left));
         }
     round-places s (at u) p e =
         let i = grainsAt (s .given) u in
@@ -69,8 +67,8 @@ module _ (offers : List Offer) (commitments : List HubKwh) (limits : List HubGra
           long = length-set (s .given) u (record { 0 = i + m }) ∙ p .long;
           less = omega (arith, p .less);
           same =
-              further (pricesOf offers commitments) (grainsAt limits) h (s .left) m z (s .given) (withMore (s .given) u m) (p .less)
-              (omega arith) (p .same)
+              further (pricesOf offers commitments) (grainsAt limits) (h - s .left) m (h - (s .left - m)) z (s .given) (withMore (s .given) u m)
+              (omega (arith, p .less)) (p .same)
               (run (pricesOf offers commitments) (grainsAt limits) 8 (s .given) u (p .long) e m (omega (arith, b .past, b .within))
               (λ j l. b .flat (i + j) (omega arith) (omega (arith, b .past))));
         }

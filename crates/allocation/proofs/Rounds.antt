@@ -24,7 +24,6 @@ use Rattle.allocation.specs.Fill.{grainsAt, withMore, better, best, next
 use Rattle.allocation.specs.Allocation.{pricesOf}
 use Rattle.allocation.specs.Blocks.{blockPrice, blockEnd, HasBlock}
 use Rattle.allocation.proofs.Best.{best-same}
-use Rattle.allocation.proofs.Threshold.{more-same, more-other}
 use Rattle.allocation.proofs.Runs.{place-add, picked, run}
 
 -- the better of two units, by the code's tests
@@ -76,13 +75,13 @@ module _ (offers : List Offer) (commitments : List HubKwh) (ceilings : List HubG
     abbrev BlockAt : ℕ → ℕ → Block → Type 0
     BlockAt v i b =
         i < grainsAt ceilings v
-        → IsBlock (getD offers v pastOffer) (getD commitments v (record { 0 = 0 })) i (grainsAt ceilings v) (b .price) (b .end)
+        → IsBlock (getD offers v pastOffer) (getD commitments v (record { 0 = 0 })) i (grainsAt ceilings v) (b .price) (b .end .0)
 
     pub block-same : (i : ℕ) → u < length blocks → BlockAt u i b → HasBlock offers commitments ceilings (set blocks u b) u i
-    block-same i l h = subst (BlockAt u i) (sym (getD-set-same blocks u b (record { price = 0; end = 0 }) l)) h
+    block-same i l h = subst (BlockAt u i) (sym (getD-set-same blocks u b (record { price = 0; end = record { 0 = 0 } }) l)) h
 
     pub block-other : (v i : ℕ) → (v ≡ u → ⊥) → HasBlock offers commitments ceilings blocks v i → HasBlock offers commitments ceilings (set blocks u b) v i
-    block-other v i d h = subst (BlockAt v i) (sym (getD-set-other blocks u v b (record { price = 0; end = 0 }) d)) h
+    block-other v i d h = subst (BlockAt v i) (sym (getD-set-other blocks u v b (record { price = 0; end = record { 0 = 0 } }) d)) h
 
   module _ (a : List HubGrains) (blocks : List Block) (has : (u : ℕ) → u < 8 → HasBlock offers commitments ceilings blocks u (grainsAt a u)) where
     -- the cheapest next block is that of the unit that gets the next grain
@@ -98,33 +97,37 @@ module _ (offers : List Offer) (commitments : List HubKwh) (ceilings : List HubG
       pub block : IsBlock (getD offers u pastOffer) (getD commitments u (record { 0 = 0 })) (grainsAt a u) (grainsAt ceilings u) (blockPrice blocks u) (blockEnd blocks u)
       block = has u (known .0) (known .1)
 
-      -- a block, or less
-      pub placed : (m : ℕ) → m ≤ blockEnd blocks u - grainsAt a u → place (pricesOf offers commitments) (grainsAt ceilings) 8 m a ≡ withMore a u m
-      placed m l =
+      -- a block, or less: unit u then has g grains
+      pub placed : (m : ℕ) (g : HubGrains) → m ≤ blockEnd blocks u - grainsAt a u → g .0 ≡ grainsAt a u + m
+          → place (pricesOf offers commitments) (grainsAt ceilings) 8 m a ≡ set a u g
+      placed m g l s =
+          let gave : withMore a u m ≡ set a u g = ap (set a u) (λ i. record { 0 = sym s i }) in
           run (pricesOf offers commitments) (grainsAt ceilings) 8 a u long e m (omega (arith, block .within, block .past))
           (λ i q.
           block .flat (grainsAt a u + i) (omega arith) (omega (arith, block .past)) ∙ sym (block .flat (grainsAt a u) (omega arith) (block .past)))
+          ∙ gave
 
-      pub has-after : (m : ℕ) (b : Block) → length blocks ≡ 8
-          → (grainsAt a u + m < grainsAt ceilings u
-          → IsBlock (getD offers u pastOffer) (getD commitments u (record { 0 = 0 })) (grainsAt a u + m) (grainsAt ceilings u) (b .price) (b .end))
-          → (v : ℕ) → v < 8 → HasBlock offers commitments ceilings (set blocks u b) v (grainsAt (withMore a u m) v)
-      has-after m b len h v l = go (ℕ-discrete v u)
+      pub has-after : (g : HubGrains) (b : Block) → length blocks ≡ 8
+          → (g .0 < grainsAt ceilings u
+          → IsBlock (getD offers u pastOffer) (getD commitments u (record { 0 = 0 })) (g .0) (grainsAt ceilings u) (b .price) (b .end .0))
+          → (v : ℕ) → v < 8 → HasBlock offers commitments ceilings (set blocks u b) v (grainsAt (set a u g) v)
+      has-after g b len h v l = go (ℕ-discrete v u)
         where
-          go : Dec (v ≡ u) → HasBlock offers commitments ceilings (set blocks u b) v (grainsAt (withMore a u m) v)
+          Has : ℕ → HubGrains → Type 0
+          Has v x = HasBlock offers commitments ceilings (set blocks u b) v (x .0)
+
+          go : Dec (v ≡ u) → HasBlock offers commitments ceilings (set blocks u b) v (grainsAt (set a u g) v)
           go (yes e) =
-              subst (λ (v : ℕ). HasBlock offers commitments ceilings (set blocks u b) v (grainsAt (withMore a u m) v)) (sym e)
-              (subst (λ (i : ℕ). HasBlock offers commitments ceilings (set blocks u b) u i) (sym (more-same a u m (omega (arith, long, known))))
-              (block-same blocks u b (grainsAt a u + m) (omega (arith, len, known)) h))
+              subst (λ (v : ℕ). HasBlock offers commitments ceilings (set blocks u b) v (grainsAt (set a u g) v)) (sym e)
+              (subst (Has u) (sym (getD-set-same a u g (record { 0 = 0 }) (omega (arith, long, known))))
+              (block-same blocks u b (g .0) (omega (arith, len, known)) h))
           go (no d) =
-              subst (λ (i : ℕ). HasBlock offers commitments ceilings (set blocks u b) v i) (sym (more-other a u m v d))
-              (block-other blocks u b v (grainsAt a v) d (has v l))
+              subst (Has v) (sym (getD-set-other a u v g (record { 0 = 0 }) d)) (block-other blocks u b v (grainsAt a v) d (has v l))
 
 -- the grains placed so far and some more
-pub further : (price : ℕ → ℕ → ℕ) (ceiling : ℕ → ℕ) (h left m : ℕ) (z a b : List HubGrains) → left ≤ h → m ≤ left
-    → a ≡ place price ceiling 8 (h - left) z → place price ceiling 8 m a ≡ b → b ≡ place price ceiling 8 (h - (left - m)) z
-further price ceiling h left m z a b l l' e e' =
-    let s : h - left + m ≡ h - (left - m) = omega arith in
+pub further : (price : ℕ → ℕ → ℕ) (ceiling : ℕ → ℕ) (n m more : ℕ) (z a b : List HubGrains) → n + m ≡ more
+    → a ≡ place price ceiling 8 n z → place price ceiling 8 m a ≡ b → b ≡ place price ceiling 8 more z
+further price ceiling n m more z a b s e e' =
     sym e'
     ∙ (ap (λ (b : List HubGrains). place price ceiling 8 m b) e
-    ∙ (sym (place-add price ceiling 8 (h - left) m z) ∙ ap (λ (n : ℕ). place price ceiling 8 n z) s))
+    ∙ (sym (place-add price ceiling 8 n m z) ∙ ap (λ (k : ℕ). place price ceiling 8 k z) s))

@@ -5,12 +5,12 @@ use mathlib.Core.Path.{_≡_, refl, sym, subst, _∙_, ap}
 use mathlib.Core.List.{List}
 use Prim.Native.Nat.{ℕ, zero, suc, _+_, _≤_, _<_}
 use native.Mathlib.Nat.{add-zero, add-suc}
-use native.Mathlib.Decide.{ℕ-discrete}
+use native.Mathlib.Decide.{ℕ-discrete, decLt}
 use native.Mathlib.Omega.{arith}
 use borrow.Author.Tests.{lt-ltb}
 use lib.Dec.{ltb}
-use lib.ListN.{length, set}
-use lib.Seq.{set-set, set-getD}
+use lib.ListN.{length, set, replicate, getD-replicate}
+use lib.Seq.{set-set, set-getD, set-out}
 use Rattle.energy.specs.declared.HubGrains.{HubGrains}
 use Rattle.allocation.specs.declared.Pick.{Pick}
 use Rattle.allocation.specs.declared.Pick.the-variants.{Nothing as none, At as at}
@@ -18,7 +18,30 @@ use Rattle.allocation.specs.Fill.{grainsAt, withMore, nextUnit, give, pl
 use Rattle.allocation.proofs.Best.{Best, Picked, best-is, best-only}
 use Rattle.allocation.proofs.Threshold.{more-same, more-other}
 
+give-most : (a : List HubGrains) (q : Pick) (u : ℕ) → grainsAt (give a q) u ≤ grainsAt a u + 1
+unfolding give
+give-most a none u = omega arith
+give-most a (at k) u = go (ℕ-discrete u k) (decLt k (length a))
+  where
+    go : Dec (u ≡ k) → Dec (k < length a) → grainsAt (withMore a k 1) u ≤ grainsAt a u + 1
+    go (yes e) (yes l) = subst (λ (v : ℕ). grainsAt (withMore a k 1) v ≤ grainsAt a v + 1) (sym e) (omega (arith, more-same a k 1 l))
+    go (yes e) (no l) = omega (arith, ap (λ (b : List HubGrains). grainsAt b u) (set-out a k (record { 0 = grainsAt a k + 1 }) (omega arith)))
+    go (no d) l = omega (arith, more-other a k 1 u d)
+
 module _ (price : ℕ → ℕ → ℕ) (ceiling : ℕ → ℕ) (n : ℕ) where
+  -- no unit has more than is placed
+  place-most : (h : ℕ) (a : List HubGrains) (u : ℕ) → grainsAt (place price ceiling n h a) u ≤ grainsAt a u + h
+  unfolding place
+  place-most zero a u = omega arith
+  place-most (suc h) a u =
+      let b = place price ceiling n h a in
+      omega (arith, give-most b (nextUnit price ceiling n b) u, place-most h a u)
+
+  pub none-over : (h : ℕ) (a : List HubGrains) (u : ℕ) → u < n → a ≡ place price ceiling n h (replicate n (record { 0 = 0 })) → grainsAt a u ≤ h
+  none-over h a u l e =
+      let z = ap (λ (g : HubGrains). g .0) (getD-replicate n u (record { 0 = 0 }) (record { 0 = 0 }) l) in
+      omega (arith, ap (λ (b : List HubGrains). grainsAt b u) e, z, place-most h (replicate n (record { 0 = 0 })) u)
+
   pub place-add : (h m : ℕ) (a : List HubGrains) → place price ceiling n (h + m) a ≡ place price ceiling n m (place price ceiling n h a)
   unfolding place
   place-add h zero a = ap (λ (k : ℕ). place price ceiling n k a) (add-zero h)

@@ -14,10 +14,10 @@ use Rattle.allocation.specs.Fill.{grainsAt}
 
 -- the price of a unit's next block
 abbrev pub blockPrice : List Block → ℕ → ℕ
-blockPrice blocks u = getD blocks u (record { price = 0; end = 0 }) .price
+blockPrice blocks u = getD blocks u (record { price = 0; end = record { 0 = 0 } }) .price
 
 abbrev pub blockEnd : List Block → ℕ → ℕ
-blockEnd blocks u = getD blocks u (record { price = 0; end = 0 }) .end
+blockEnd blocks u = getD blocks u (record { price = 0; end = record { 0 = 0 } }) .end .0
 
 -- the offer and the commitment of a unit with a ceiling over 0 keep their ranges
 abbrev pub Offered : List Offer → List HubKwh → List HubGrains → Type 0

@@ -17,7 +17,7 @@ ghost use Rattle.offer.specs.Offer.{offerHolds};
 ghost use Rattle.offer.specs.Modified.{IsBlock};
 ghost use Rattle.allocation.specs.declared.Pick.the-variants.{Nothing, At};
 ghost use Rattle.allocation.specs.Fill.{grainsAt, better, best, fill as «the_fill»};
-ghost use Rattle.allocation.specs.Allocation.{above as «the_above», netAt, grossAt, plantEnergy, ceilings as «the_ceilings», pricesOf, energies, PlantHolds};
+ghost use Rattle.allocation.specs.Allocation.{netAt, grossAt, plantEnergy, ceilings as «the_ceilings», pricesOf, energies, PlantHolds};
 ghost use Rattle.allocation.specs.Blocks.{blockPrice, Offered, HasBlock};
 
 // A unit's place, or none.
@@ -37,22 +37,12 @@ pub struct Plant {
     pub offer: [Offer; 8],
 }
 
-// max(a - b, 0)
-fn above(a: NetKwh, b: NetKwh) -> NetKwh
-    ensures { λ r. ⌜ r ≡ «the_above» a b ⌝ }
-{
-    if a.0 < b.0 {
-        return NetKwh(0);
-    }
-    NetKwh(a.0 - b.0)
-}
-
 // The plant's net hub energy H.
 pub fn plant_energy(net: NetKwh, reverse: NetKwh, loss: u64) -> HubGrains
     requires { ⌜ (net .0 ≤ 1000000000) × (loss ≤ 10000) ⌝ }
     ensures { λ r. ⌜ r ≡ plantEnergy net reverse loss ⌝ }
 {
-    energy::hub_of(above(net, reverse), loss)
+    energy::hub_of(net.above(reverse), loss)
 }
 
 // The value of the unit at place k, 0 outside the plant.
@@ -70,15 +60,14 @@ fn real_sum(units: u64, real: [NetKwh; 8]) -> NetKwh
     requires { ⌜ ((k : ℕ) → netAt units real k .0 ≤ 1000000) ⌝ }
     ensures { λ r. ⌜ r ≡ record { 0 = sum 8 (λ (k : ℕ). netAt units real k .0) } ⌝ }
 {
-    let mut sum: u64 = 0;
+    let mut sum = NetKwh(0);
     let mut k: usize = 0;
     while k < 8 {
         let value = real[k];
-        let counted = net_at(units, value, k);
-        sum += counted.0;
+        sum = sum.plus(net_at(units, value, k));
         k += 1;
     }
-    NetKwh(sum)
+    sum
 }
 
 // What the share of the unit at place k goes by: `real`, or `nominal` where R, here `reals`, is 0; outside the plant 0.
@@ -86,7 +75,7 @@ fn weight_at(units: u64, real: NetKwh, nominal: GrossKwh, reals: NetKwh, k: usiz
     ensures { λ r. ⌜ r ≡ cond (eqb (reals .0) 0) (cond (memberAt units k) nominal (record { 0 = 0 }) .0) (cond (memberAt units k) real (record { 0 = 0 }) .0) ⌝ }
 {
     if units::member_at(units, k) {
-        if reals.0 == 0 {
+        if reals.equals(NetKwh(0)) {
             return nominal.0;
         }
         return real.0;
@@ -120,7 +109,7 @@ fn with_shares(units: u64, real: [NetKwh; 8], loss: u64, shares: [u64; 8]) -> [H
         let value = real[k];
         let able = energy::hub_of(net_at(units, value, k), loss);
         let share = shares[k];
-        ceilings[k] = HubGrains(able.0 + share);
+        ceilings[k] = able.plus(HubGrains(share));
         k += 1;
     }
     ceilings
@@ -136,27 +125,19 @@ pub fn ceilings(net: NetKwh, reverse: NetKwh, plant: Plant) -> [HubGrains; 8]
     let real = plant.real;
     let nominal = plant.nominal;
     let reals = real_sum(units, real);
-    let excess = energy::hub_of(above(above(net, reverse), reals), loss);
+    let excess = energy::hub_of(net.above(reverse).above(reals), loss);
     let weights = weights_of(units, real, nominal, reals);
     let mut shares = [0u64; 8];
     apportion::apportion(&weights, excess.0, &mut shares);
     with_shares(units, real, loss, shares)
 }
 
-// The lesser of two numbers.
-fn least(a: u64, b: u64) -> u64
-    ensures { λ r. ⌜ (r ≤ a) × (r ≤ b) ⌝ }
-    ensures { λ r. ⌜ ((x : ℕ) → x < a → x < b → x < r) ⌝ }
-{
-    if a < b { a } else { b }
-}
-
 // The block of a unit's grains from i on, if there is room below the limit.
-fn next_block(offer: Offer, commitment: HubKwh, i: u64, limit: u64) -> Block
-    requires { ⌜ (i < limit → (offerHolds offer ≡ true) × (commitment .0 ≤ 1000000000)) ⌝ }
-    ensures { λ r. ⌜ (i < limit → IsBlock offer commitment i limit (r .price) (r .end)) ⌝ }
+fn next_block(offer: Offer, commitment: HubKwh, i: HubGrains, limit: HubGrains) -> Block
+    requires { ⌜ (i .0 < limit .0 → (offerHolds offer ≡ true) × (commitment .0 ≤ 1000000000)) ⌝ }
+    ensures { λ r. ⌜ (i .0 < limit .0 → IsBlock offer commitment (i .0) (limit .0) (r .price) (r .end .0)) ⌝ }
 {
-    if i < limit {
+    if limit.exceeds(i) {
         return offer::block_at(offer, commitment, i, limit);
     }
     Block {
@@ -174,13 +155,16 @@ fn first_blocks(
     requires { ⌜ Offered offers commitments ceilings ⌝ }
     ensures { λ r. ⌜ (length r ≡ 8) × ((u : ℕ) → u < 8 → HasBlock offers commitments ceilings r u 0) ⌝ }
 {
-    let mut blocks = [Block { price: 0, end: 0 }; 8];
+    let mut blocks = [Block {
+        price: 0,
+        end: HubGrains(0),
+    }; 8];
     let mut u: usize = 0;
     while u < 8 {
         let offer = offers[u];
         let commitment = commitments[u];
         let limit = ceilings[u];
-        blocks[u] = next_block(offer, commitment, 0, limit.0);
+        blocks[u] = next_block(offer, commitment, HubGrains(0), limit);
         u += 1;
     }
     blocks
@@ -223,7 +207,7 @@ fn cheapest(energies: [HubGrains; 8], ceilings: [HubGrains; 8], blocks: [Block; 
         let has = energies[v];
         let limit = ceilings[v];
         let block = blocks[v];
-        if has.0 < limit.0 {
+        if limit.exceeds(has) {
             let better = better_of(found, low, block.price, v);
             low = lower_of(found, low, block.price);
             found = better;
@@ -245,22 +229,22 @@ fn fill(
 {
     let mut energies = [HubGrains(0); 8];
     let mut blocks = first_blocks(offers, commitments, ceilings);
-    let mut left = total.0;
-    while 0 < left {
+    let mut left = total;
+    while left.exceeds(HubGrains(0)) {
         let found = cheapest(energies, ceilings, blocks);
         let Pick::At(u) = found else {
             return energies;
         };
         let has = energies[u];
         let block = blocks[u];
-        let more = least(block.end - has.0, left);
-        let grains = has.0 + more;
+        let more = block.end.above(has).lesser(left);
+        let grains = has.plus(more);
         let offer = offers[u];
         let commitment = commitments[u];
         let limit = ceilings[u];
-        energies[u] = HubGrains(grains);
-        blocks[u] = next_block(offer, commitment, grains, limit.0);
-        left -= more;
+        energies[u] = grains;
+        blocks[u] = next_block(offer, commitment, grains, limit);
+        left = left.above(more);
     }
     energies
 }

@@ -3,7 +3,7 @@
 use mathlib.Core.Path.{_≡_, sym, _∙_, ap}
 use mathlib.Core.Bool.{cond}
 use mathlib.Core.List.{List}
-use Prim.Native.Nat.{ℕ, _+_}
+use Prim.Native.Nat.{ℕ, _+_, _-_}
 use native.Mathlib.Omega.{arith}
 use lib.Dec.{eqb}
 use lib.ListN.{length, getD}
@@ -26,11 +26,13 @@ excess-here : (c : tie.After-hub-of) →
 unfolding excess netEnergy realSum
 excess-here c =
     let a = c .before .before .before .before .before .before .args in
-    let r = c .before .before .before .real-sum .ensures in
-    let n = c .before .before .above .ensures in
-    c .hub-of .ensures
-    ∙ ap (λ (n : NetKwh). hubOf n (a .plant .loss))
-    (c .before .above2 .ensures ∙ (ap (λ (n : NetKwh). above n (c .before .before .before .real-sum .result)) n ∙ ap (above (above (a .net) (a .reverse))) r))
+    let reals = c .before .before .before .real-sum in
+    let e =
+    c .before .above2 .ensures
+    ∙ (ap (λ (n : ℕ). n - reals .result .0) (c .before .before .above .ensures)
+    ∙ ap (λ (r : NetKwh). a .net .0 - a .reverse .0 - r .0) (reals .ensures)) in
+    let n : c .before .above2 .result ≡ above (above (a .net) (a .reverse)) (realSum (a .plant)) = λ i. record { 0 = e i } in
+    c .hub-of .ensures ∙ ap (λ (n : NetKwh). hubOf n (a .plant .loss)) n
 
 weights-here : (c : tie.After-weights-of) → c .weights-of .result ≡ tabulate 8 (weightAt (c .before .before .before .before .before .before .before .args .plant))
 unfolding weightAt realSum
@@ -62,10 +64,7 @@ above-requires-2 : tie.Need-above-requires-2
 above-requires-2 c κs = search needs
 
 hub-of-requires : tie.Need-hub-of-requires
-hub-of-requires c κs =
-    let start = c .before .before .before .before .before in
-    let n = ap (λ (n : NetKwh). n .0) (c .before .above .ensures) in
-    (omega (arith, start .pre .0, n, ap (λ (n : NetKwh). n .0) (c .above2 .ensures)), omega (arith, start .pre .1 .lost))
+hub-of-requires c κs = search needs
 
 weights-of-requires : tie.Need-weights-of-requires
 weights-of-requires c κs = search needs

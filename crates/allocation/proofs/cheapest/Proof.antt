@@ -1,11 +1,10 @@
 -- The loop's invariant: `found` is the best of the units passed, and `low` the price of its next block.
 -- Assumes nothing.
 use mathlib.Core.Path.{_≡_, refl, sym, _∙_, ap}
-use mathlib.Core.Bool.{Bool}
+use mathlib.Core.Bool.{Bool, true, false}
 use mathlib.Core.Logic.{⊎-elim}
 use Prim.Native.Nat.{ℕ, _-_, _≤_}
 use native.Mathlib.Omega.{arith}
-use borrow.Author.Tests.{lt-ltb, le-ltb}
 use lib.Dec.{ltb}
 use Rattle.allocation.specs.declared.Pick.{Pick}
 use Rattle.allocation.specs.declared.Pick.the-variants.{At as at}
@@ -47,6 +46,9 @@ mul-block c = search needs
 array-copy-out-block : tie.Need-array-copy-out-block Inv-loop μ-loop
 array-copy-out-block c = search needs
 
+exceeds-requires : tie.Need-exceeds-requires Inv-loop μ-loop
+exceeds-requires c κs = search needs
+
 better-of-requires : tie.Need-better-of-requires Inv-loop μ-loop
 better-of-requires c κs = search needs
 
@@ -61,25 +63,27 @@ loop-less c = search needs
 
 loop-again : tie.Need-loop-again Inv-loop μ-loop
 loop-again c =
-    let a = c .before .before .before .before .before .before .before .before .args in
-    let l = c .before .before .before .before .before .before .before .loop in
+    let a = c .before .before .before .before .before .before .before .args in
+    let l = c .before .before .before .before .before .before .loop in
     let room : ℕ → Bool = λ u. ltb (grainsAt (a .t1) u) (grainsAt (a .t2) u) in
     let next : ℕ → ℕ = blockPrice (a .t3) in
     ⊎-elim
     (λ w.
+    let free : room (l .v) ≡ true = cc in
     let better-is = w .1 .ensures next refl (l .inv .2) in (
       omega arith,
       w .3
           ∙ (better-is
           ∙ (ap (λ (q : Pick). better next q (l .v)) (l .inv .1)
-          ∙ best-free next room (l .v) (lt-ltb (grainsAt (a .t1) (l .v)) (grainsAt (a .t2) (l .v)) (omega (arith, w .0 .taken))))),
+          ∙ best-free next room (l .v) free)),
       low-after next (l .v) (l .low) (c .if1 .low) (next (l .v)) refl (l .found) (l .inv .2) (λ n. w .4 ∙ w .2 .ensures .0 n)
           (λ u e. w .4 ∙ w .2 .ensures .1 u e)
           (c .if1 .found) (w .3 ∙ better-is),
     ))
-    (λ w. (
+    (λ w.
+    let full : room (l .v) ≡ false = cc in (
       omega arith,
-      w .1 ∙ (l .inv .1 ∙ best-full next room (l .v) (le-ltb (grainsAt (a .t1) (l .v)) (grainsAt (a .t2) (l .v)) (omega (arith, w .0 .left)))),
+      w .1 ∙ (l .inv .1 ∙ best-full next room (l .v) full),
       λ u e. l .inv .2 u (sym (w .1) ∙ e) ∙ sym (w .2),
     ))
     (c .if1 .came)
@@ -103,6 +107,7 @@ cheapest-spec =
     array-copy-out-limit
     mul-block
     array-copy-out-block
+    exceeds-requires
     better-of-requires
     lower-of-requires
     add-v

@@ -4,6 +4,7 @@
 use mathlib.Core.Path.{_≡_, refl, sym, subst, _∙_, ap}
 use Prim.Native.Nat.{ℕ, _-_, _<_, _≤_}
 use native.Mathlib.Omega.{arith}
+use borrow.Author.Tests.{ltb-true, ltb-false}
 use lib.ListN.{length, length-set, getD, replicate, getD-replicate}
 use Rattle.energy.specs.declared.HubGrains.{HubGrains}
 use Rattle.offer.specs.Offer.{pastOffer}
@@ -12,7 +13,7 @@ use Rattle.allocation.specs.declared.Pick.the-variants.{At as at}
 use Rattle.allocation.specs.Fill.{grainsAt, nextUnit, place, fill}
 use Rattle.allocation.specs.Allocation.{pricesOf}
 use Rattle.allocation.specs.Blocks.{blockPrice, blockEnd, HasBlock}
-use Rattle.allocation.proofs.Runs.{place-none}
+use Rattle.allocation.proofs.Runs.{place-none, none-over}
 use Rattle.allocation.proofs.Rounds.{same-pick, known, placed, has-after, further}
 use borrow.Author.Needs.{needs}
 use Rattle.allocation.proofs.fill.Statement.{statement}
@@ -20,57 +21,60 @@ use Rattle.allocation.proofs.fill.Tie as tie
 
 abbrev Inv-loop : tie.InvT-loop
 Inv-loop offers commitments ceilings energies₀ blocks₀ left₀ energies blocks left =
-    (left ≤ left₀)
+    (left .0 ≤ left₀ .0)
     × (length energies ≡ 8)
     × (length blocks ≡ 8)
-    × (energies ≡ place (pricesOf offers commitments) (grainsAt ceilings) 8 (left₀ - left) (replicate 8 (record { 0 = 0 })))
+    × (energies ≡ place (pricesOf offers commitments) (grainsAt ceilings) 8 (left₀ .0 - left .0) (replicate 8 (record { 0 = 0 })))
     × ((u : ℕ) → u < 8 → HasBlock offers commitments ceilings blocks u (grainsAt energies u))
 
 abbrev μ-loop : tie.MeasureT-loop
-μ-loop offers commitments ceilings energies₀ blocks₀ left₀ energies blocks left = left
+μ-loop offers commitments ceilings energies₀ blocks₀ left₀ energies blocks left = left .0
 
 -- the unit that gets the next grains, its room, and its block
 pick-here : (c : tie.After-known-told Inv-loop μ-loop) →
-    let a = c .before .before .before .before .before .before .before .args in
-    let l = c .before .before .before .before .before .loop in
+    let a = c .before .before .before .before .before .before .before .before .args in
+    let l = c .before .before .before .before .before .before .loop in
     nextUnit (pricesOf (a .t1) (a .t2)) (grainsAt (a .t3)) 8 (l .energies) ≡ at (c .before .found .given .0 .0)
 pick-here c =
-    let a = c .before .before .before .before .before .before .before .args in
-    let l = c .before .before .before .before .before .loop in
+    let a = c .before .before .before .before .before .before .before .before .args in
+    let l = c .before .before .before .before .before .before .loop in
     sym (same-pick (a .t1) (a .t2) (a .t3) (l .energies) (l .blocks) (l .inv .4))
     ∙ (sym (c .before .before .before .cheapest .ensures) ∙ c .before .found .given .1)
 
 known-here : (c : tie.After-known-told Inv-loop μ-loop) →
-    let a = c .before .before .before .before .before .before .before .args in
-    let l = c .before .before .before .before .before .loop in
+    let a = c .before .before .before .before .before .before .before .before .args in
+    let l = c .before .before .before .before .before .before .loop in
     let u = c .before .found .given .0 .0 in
     (u < 8) × (grainsAt (l .energies) u < grainsAt (a .t3) u)
 known-here c =
-    let a = c .before .before .before .before .before .before .before .args in
-    let l = c .before .before .before .before .before .loop in
+    let a = c .before .before .before .before .before .before .before .before .args in
+    let l = c .before .before .before .before .before .before .loop in
     known (a .t1) (a .t2) (a .t3) (l .energies) (l .blocks) (l .inv .4) (c .before .found .given .0 .0) (l .inv .1) (pick-here c)
 
 block-here : (c : tie.After-known-told Inv-loop μ-loop) →
-    let a = c .before .before .before .before .before .before .before .args in
-    let l = c .before .before .before .before .before .loop in
+    let a = c .before .before .before .before .before .before .before .before .args in
+    let l = c .before .before .before .before .before .before .loop in
     let u = c .before .found .given .0 .0 in
     IsBlock (getD (a .t1) u pastOffer) (getD (a .t2) u (record { 0 = 0 })) (grainsAt (l .energies) u) (grainsAt (a .t3) u)
     (blockPrice (l .blocks) u) (blockEnd (l .blocks) u)
 block-here c =
-    let l = c .before .before .before .before .before .loop in
+    let l = c .before .before .before .before .before .before .loop in
     let k = known-here c in
     l .inv .4 (c .before .found .given .0 .0) (k .0) (k .1)
 
 -- a round gives at least one grain, no more than are left and no more than the block has
-more-here : (c : tie.After-next-block Inv-loop μ-loop) →
-    let l = c .before .before .before .before .before .before .before .before .before .before .before .before .before .before .before .loop in
-    let u = c .before .before .before .before .before .before .before .before .before .before .before .found .given .0 .0 in
-    let m = c .before .before .before .before .before .least .result in
-    (0 < m) × (m ≤ l .left) × (m ≤ blockEnd (l .blocks) u - grainsAt (l .energies) u)
+more-here : (c : tie.After-lesser Inv-loop μ-loop) →
+    let l = c .before .before .before .before .before .before .before .before .before .before .loop in
+    let u = c .before .before .before .before .before .found .given .0 .0 in
+    let m = c .lesser .result .0 in
+    (0 < m) × (m ≤ l .left .0) × (m ≤ blockEnd (l .blocks) u - grainsAt (l .energies) u)
 more-here c =
-    let b = block-here (c .before .before .before .before .before .before .before .before .before .before) in
-    let m = c .before .before .before .before .before .least .ensures in
-    (m .1 0 (omega (arith, b .past)) (c .before .before .before .before .before .before .before .before .before .before .before .before .before .before .loop-test .taken), m .0 .1, m .0 .0)
+    let b = block-here (c .before .before .before .before) in
+    let l = c .before .before .before .before .before .before .before .before .before .before .loop in
+    let some = ltb-true 0 (l .left .0) (sym (c .before .before .before .before .before .before .before .before .before .exceeds .ensures) ∙ c .before .before .before .before .before .before .before .before .if1 .taken) in
+    let e = c .before .above .ensures in
+    let m = c .lesser .ensures in
+    (omega (arith, b .past, some, e, m), omega (arith, m), omega (arith, e, m))
 
 first-blocks-requires : tie.Need-first-blocks-requires Inv-loop μ-loop
 first-blocks-requires c κs = search needs
@@ -90,6 +94,9 @@ loop-holds c =
           (c .first-blocks .ensures .1 u l),
     )
 
+exceeds-requires : tie.Need-exceeds-requires Inv-loop μ-loop
+exceeds-requires c κs = search needs
+
 cheapest-requires : tie.Need-cheapest-requires Inv-loop μ-loop
 cheapest-requires c κs = search needs
 
@@ -102,16 +109,14 @@ enum-told c = search needs
 returns : tie.Need-returns Inv-loop μ-loop
 unfolding fill
 returns c =
-    let a = c .before .before .before .before .before .before .args in
-    let l = c .before .before .before .before .loop in
+    let a = c .before .before .before .before .before .before .before .args in
+    let l = c .before .before .before .before .before .loop in
     let p = pricesOf (a .t1) (a .t2) in
     let q =
     sym (same-pick (a .t1) (a .t2) (a .t3) (l .energies) (l .blocks) (l .inv .4))
     ∙ (sym (c .before .before .cheapest .ensures) ∙ c .enum-told .given .1) in
-    let e : a .total .0 - (l .left - l .left) ≡ a .total .0 = omega arith in
-    further p (grainsAt (a .t3)) (a .total .0) (l .left) (l .left) (replicate 8 (record { 0 = 0 })) (l .energies) (l .energies) (l .inv .0)
-    (omega arith) (l .inv .3) (place-none p (grainsAt (a .t3)) 8 (l .energies) q (l .left))
-    ∙ ap (λ (n : ℕ). place p (grainsAt (a .t3)) 8 n (replicate 8 (record { 0 = 0 }))) e
+    further p (grainsAt (a .t3)) (a .total .0 - l .left .0) (l .left .0) (a .total .0) (replicate 8 (record { 0 = 0 })) (l .energies) (l .energies)
+    (omega (arith, l .inv .0)) (l .inv .3) (place-none p (grainsAt (a .t3)) 8 (l .energies) q (l .left .0))
 
 mul-has : tie.Need-mul-has Inv-loop μ-loop
 mul-has c = let k = known-here c in omega (arith, k .0)
@@ -125,85 +130,93 @@ mul-block c = let k = known-here (c .before) in omega (arith, k .0)
 array-copy-out-block : tie.Need-array-copy-out-block Inv-loop μ-loop
 array-copy-out-block c = let k = known-here (c .before) in omega (arith, k .0)
 
-sub-least : tie.Need-sub-least Inv-loop μ-loop
-sub-least c = let b = block-here (c .before .before .before .before) in omega (arith, b .past)
+above-requires : tie.Need-above-requires Inv-loop μ-loop
+above-requires c κs = search needs
 
-least-requires : tie.Need-least-requires Inv-loop μ-loop
-least-requires c κs = search needs
+lesser-requires : tie.Need-lesser-requires Inv-loop μ-loop
+lesser-requires c κs = search needs
 
-add-grains : tie.Need-add-grains Inv-loop μ-loop
-add-grains c =
-    let b = block-here (c .before .before .before .before .before .before) in
-    let m = c .before .least .ensures in
-    omega (arith, b .past, b .within, m .0, c .before .before .before .before .before .before .before .before .before .before .before .before .before .good)
+plus-requires : tie.Need-plus-requires Inv-loop μ-loop
+plus-requires c κs =
+    let start = c .before .before .before .before .before .before .before .before .before .before .before .before in
+    let a = start .args in
+    let l = c .before .before .before .before .before .before .before .before .before .before .loop in
+    let u = c .before .before .before .before .before .found .given .0 .0 in
+    let m = more-here c in
+    let has = none-over (pricesOf (a .t1) (a .t2)) (grainsAt (a .t3)) 8 (a .total .0 - l .left .0) (l .energies) u (known-here (c .before .before .before .before) .0) (l .inv .3) in
+    omega (arith, has, m .1, l .inv .0, start .good .1 .1 .1 .0)
 
 mul-offer : tie.Need-mul-offer Inv-loop μ-loop
-mul-offer c = let k = known-here (c .before .before .before .before .before .before) in omega (arith, k .0)
+mul-offer c = let k = known-here (c .before .before .before .before .before) in omega (arith, k .0)
 
 array-copy-out-offer : tie.Need-array-copy-out-offer Inv-loop μ-loop
-array-copy-out-offer c = let k = known-here (c .before .before .before .before .before .before) in omega (arith, k .0)
+array-copy-out-offer c = let k = known-here (c .before .before .before .before .before) in omega (arith, k .0)
 
 mul-commitment : tie.Need-mul-commitment Inv-loop μ-loop
-mul-commitment c = let k = known-here (c .before .before .before .before .before .before .before) in omega (arith, k .0)
+mul-commitment c = let k = known-here (c .before .before .before .before .before .before) in omega (arith, k .0)
 
 array-copy-out-commitment : tie.Need-array-copy-out-commitment Inv-loop μ-loop
-array-copy-out-commitment c = let k = known-here (c .before .before .before .before .before .before .before) in omega (arith, k .0)
+array-copy-out-commitment c = let k = known-here (c .before .before .before .before .before .before) in omega (arith, k .0)
 
 mul-limit : tie.Need-mul-limit Inv-loop μ-loop
-mul-limit c = let k = known-here (c .before .before .before .before .before .before .before .before) in omega (arith, k .0)
+mul-limit c = let k = known-here (c .before .before .before .before .before .before .before) in omega (arith, k .0)
 
 array-copy-out-limit : tie.Need-array-copy-out-limit Inv-loop μ-loop
-array-copy-out-limit c = let k = known-here (c .before .before .before .before .before .before .before .before) in omega (arith, k .0)
+array-copy-out-limit c = let k = known-here (c .before .before .before .before .before .before .before) in omega (arith, k .0)
 
 mul-energies : tie.Need-mul-energies Inv-loop μ-loop
-mul-energies c = let k = known-here (c .before .before .before .before .before .before .before .before .before) in omega (arith, k .0)
+mul-energies c = let k = known-here (c .before .before .before .before .before .before .before .before) in omega (arith, k .0)
 
 array-set-from-energies : tie.Need-array-set-from-energies Inv-loop μ-loop
-array-set-from-energies c = let k = known-here (c .before .before .before .before .before .before .before .before .before) in omega (arith, k .0)
+array-set-from-energies c = let k = known-here (c .before .before .before .before .before .before .before .before) in omega (arith, k .0)
 
 next-block-requires : tie.Need-next-block-requires Inv-loop μ-loop
 next-block-requires c κs =
-    let k = known-here (c .before .before .before .before .before .before .before .before .before) in
-    λ l. c .before .before .before .before .before .before .before .before .before .before .before .before .before .before .before .before .pre (c .before .before .before .before .before .before .before .before .before .before .found .given .0 .0) (k .0) (omega (arith, k .1))
+    let k = known-here (c .before .before .before .before .before .before .before .before) in
+    λ l. c .before .before .before .before .before .before .before .before .before .before .before .before .before .before .before .before .pre (c .before .before .before .before .before .before .before .before .before .found .given .0 .0) (k .0) (omega (arith, k .1))
 
 mul-blocks : tie.Need-mul-blocks Inv-loop μ-loop
-mul-blocks c = let k = known-here (c .before .before .before .before .before .before .before .before .before .before) in omega (arith, k .0)
+mul-blocks c = let k = known-here (c .before .before .before .before .before .before .before .before .before) in omega (arith, k .0)
 
 array-set-from-blocks : tie.Need-array-set-from-blocks Inv-loop μ-loop
-array-set-from-blocks c = let k = known-here (c .before .before .before .before .before .before .before .before .before .before) in omega (arith, k .0)
+array-set-from-blocks c = let k = known-here (c .before .before .before .before .before .before .before .before .before) in omega (arith, k .0)
 
-sub-left : tie.Need-sub-left Inv-loop μ-loop
-sub-left c = let m = c .before .before .before .before .before .least .ensures in omega (arith, m .0)
+above-requires-2 : tie.Need-above-requires-2 Inv-loop μ-loop
+above-requires-2 c κs = search needs
 
 loop-less : tie.Need-loop-less Inv-loop μ-loop
 loop-less c =
-    let m = more-here c in
-    omega (arith, m)
+    let m = more-here (c .before .before .before .before .before .before) in
+    omega (arith, m, c .above2 .ensures)
 
 loop-again : tie.Need-loop-again Inv-loop μ-loop
 loop-again c =
-    let a = c .before .before .before .before .before .before .before .before .before .before .before .before .before .before .before .before .before .args in
-    let l = c .before .before .before .before .before .before .before .before .before .before .before .before .before .before .before .loop in
+    let a = c .before .before .before .before .before .before .before .before .before .before .before .before .before .before .before .before .before .before .args in
+    let l = c .before .before .before .before .before .before .before .before .before .before .before .before .before .before .before .before .loop in
     let at = c .before .before .before .before .before .before .before .before .before .before in
     let u = at .before .found .given .0 .0 in
-    let m = c .before .before .before .before .before .least in
-    let more = more-here c in
+    let m = c .before .before .before .before .before .before .lesser .result .0 in
+    let grains = c .before .before .before .before .before .plus in
+    let more = more-here (c .before .before .before .before .before .before) in
+    let rest = c .above2 .ensures in
     let p = pricesOf (a .t1) (a .t2) in (
-      omega arith,
+      omega (arith, l .inv .0, rest),
       simp length-set (l .inv .1),
       simp length-set (l .inv .2),
-      further p (grainsAt (a .t3)) (a .total .0) (l .left) (m .result) (replicate 8 (record { 0 = 0 })) (l .energies) _ (l .inv .0) (more .1)
-          (l .inv .3) (placed (a .t1) (a .t2) (a .t3) (l .energies) (l .blocks) (l .inv .4) u (l .inv .1) (pick-here at) (m .result) (more .2)),
-      has-after (a .t1) (a .t2) (a .t3) (l .energies) (l .blocks) (l .inv .4) u (l .inv .1) (pick-here at) (m .result) (c .next-block .result)
-          (l .inv .2) (c .next-block .ensures),
+      further p (grainsAt (a .t3)) (a .total .0 - l .left .0) m (a .total .0 - c .above2 .result .0) (replicate 8 (record { 0 = 0 })) (l .energies) _
+          (omega (arith, l .inv .0, more .1, rest)) (l .inv .3)
+          (placed (a .t1) (a .t2) (a .t3) (l .energies) (l .blocks) (l .inv .4) u (l .inv .1) (pick-here at) m (grains .result) (more .2) (grains .ensures)),
+      has-after (a .t1) (a .t2) (a .t3) (l .energies) (l .blocks) (l .inv .4) u (l .inv .1) (pick-here at) (grains .result) (c .before .next-block .result)
+          (l .inv .2) (c .before .next-block .ensures),
     )
 
 returns-2 : tie.Need-returns-2 Inv-loop μ-loop
 unfolding fill
 returns-2 c =
-    let a = c .before .before .before .args in
-    let l = c .before .loop in
-    let e : a .total .0 - l .left ≡ a .total .0 = omega arith in
+    let a = c .before .before .before .before .args in
+    let l = c .before .before .loop in
+    let none = ltb-false 0 (l .left .0) (sym (c .before .exceeds .ensures) ∙ c .if1 .left) in
+    let e : a .total .0 - l .left .0 ≡ a .total .0 = omega (arith, none) in
     l .inv .3 ∙ ap (λ (n : ℕ). place (pricesOf (a .t1) (a .t2)) (grainsAt (a .t3)) 8 n (replicate 8 (record { 0 = 0 }))) e
 
 pub fill-spec : {M : Type 1} → statement M
@@ -214,6 +227,7 @@ fill-spec =
     μ-loop
     first-blocks-requires
     loop-holds
+    exceeds-requires
     cheapest-requires
     enum-known-found
     enum-told
@@ -222,9 +236,9 @@ fill-spec =
     array-copy-out-has
     mul-block
     array-copy-out-block
-    sub-least
-    least-requires
-    add-grains
+    above-requires
+    lesser-requires
+    plus-requires
     mul-offer
     array-copy-out-offer
     mul-commitment
@@ -236,7 +250,7 @@ fill-spec =
     next-block-requires
     mul-blocks
     array-set-from-blocks
-    sub-left
+    above-requires-2
     loop-less
     loop-again
     returns-2)

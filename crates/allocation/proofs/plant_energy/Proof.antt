@@ -1,10 +1,9 @@
 -- The hub energy of N, as `above` gives it.
 -- Assumes nothing.
-use mathlib.Core.Path.{_∙_, ap}
-use native.Mathlib.Omega.{arith}
+use mathlib.Core.Path.{_≡_, _∙_, ap}
 use Rattle.energy.specs.declared.NetKwh.{NetKwh}
 use Rattle.energy.specs.Energy.{hubOf}
-use Rattle.allocation.specs.Allocation.{netEnergy, plantEnergy}
+use Rattle.allocation.specs.Allocation.{above, netEnergy, plantEnergy}
 use borrow.Author.Needs.{needs}
 use Rattle.allocation.proofs.plant_energy.Statement.{statement}
 use Rattle.allocation.proofs.plant_energy.Tie as tie
@@ -13,11 +12,14 @@ above-requires : tie.Need-above-requires
 above-requires c κs = search needs
 
 hub-of-requires : tie.Need-hub-of-requires
-hub-of-requires c κs = (omega (arith, ap (λ (n : NetKwh). n .0) (c .above .ensures)), omega arith)
+hub-of-requires c κs = search needs
 
 returns : tie.Need-returns
 unfolding plantEnergy netEnergy
-returns c = c .hub-of .ensures ∙ ap (λ (n : NetKwh). hubOf n (c .before .before .args .loss)) (c .before .above .ensures)
+returns c =
+    let a = c .before .before .args in
+    let n : c .before .above .result ≡ above (a .net) (a .reverse) = λ i. record { 0 = c .before .above .ensures i } in
+    c .hub-of .ensures ∙ ap (λ (n : NetKwh). hubOf n (a .loss)) n
 
 pub plant-energy-spec : {M : Type 1} → statement M
 plant-energy-spec = tie.close (tie.spec above-requires hub-of-requires returns)

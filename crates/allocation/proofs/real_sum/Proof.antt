@@ -13,7 +13,7 @@ use Rattle.allocation.proofs.real_sum.Tie as tie
 
 abbrev Inv-loop : tie.InvT-loop
 Inv-loop units real sum₀ k₀ sum k =
-    (k ≤ 8) × (sum ≤ 1000000 * k) × (sum ≡ sumBelow k (λ i. netAt units real i .0))
+    (k ≤ 8) × (sum .0 ≤ 1000000 * k) × (sum .0 ≡ sumBelow k (λ i. netAt units real i .0))
 
 abbrev μ-loop : tie.MeasureT-loop
 μ-loop units real sum₀ k₀ sum k = 8 - k
@@ -31,11 +31,11 @@ array-copy-out-value c = search needs
 net-at-requires : tie.Need-net-at-requires Inv-loop μ-loop
 net-at-requires c κs = search needs
 
-add-sum : tie.Need-add-sum Inv-loop μ-loop
-add-sum c =
-    let start = c .before .before .before .before .before in
-    let l = c .before .before .before .before .loop in
-    omega (arith, ap (λ (n : NetKwh). n .0) (c .before .net-at .ensures), start .pre (l .k), l .inv)
+plus-requires : tie.Need-plus-requires Inv-loop μ-loop
+plus-requires c κs =
+    let start = c .before .before .before .before in
+    let l = c .before .before .before .loop in
+    omega (arith, ap (λ (n : NetKwh). n .0) (c .net-at .ensures), start .pre (l .k), l .inv)
 
 add-k : tie.Need-add-k Inv-loop μ-loop
 add-k c = search needs
@@ -48,15 +48,17 @@ loop-again c =
     let start = c .before .before .before .before .before in
     let l = c .before .before .before .before .loop in
     let e = ap (λ (n : NetKwh). n .0) (c .before .net-at .ensures) in
+    let p = c .plus .ensures in
     let m = start .pre (l .k) in
-    (omega arith, omega (arith, e, m, l .inv), omega (arith, e, l .inv .2, sum-next (l .k) (λ i. netAt (start .args .units) (start .args .t2) i .0)))
+    (omega arith, omega (arith, e, p, m, l .inv), omega (arith, e, p, l .inv .2, sum-next (l .k) (λ i. netAt (start .args .units) (start .args .t2) i .0)))
 
 returns : tie.Need-returns Inv-loop μ-loop
 returns c =
     let a = c .before .before .args in
     let l = c .before .loop in
-    let kwh : ℕ → NetKwh = λ x. record { 0 = x } in
-    ap kwh (l .inv .2 ∙ ap (λ (n : ℕ). sumBelow n (λ i. netAt (a .units) (a .t2) i .0)) (omega arith))
+    let all : l .k ≡ 8 = omega arith in
+    let e = l .inv .2 ∙ ap (λ (n : ℕ). sumBelow n (λ i. netAt (a .units) (a .t2) i .0)) all in
+    λ i. record { 0 = e i }
 
 pub real-sum-spec : {M : Type 1} → statement M
 real-sum-spec =
@@ -68,7 +70,7 @@ real-sum-spec =
     mul-value
     array-copy-out-value
     net-at-requires
-    add-sum
+    plus-requires
     add-k
     loop-less
     loop-again

@@ -4,7 +4,6 @@ use mathlib.Core.Path.{_≡_, refl, sym, _∙_}
 use mathlib.Core.Bool.{Bool, true, false, cond}
 use Prim.Native.Nat.{ℕ}
 use lib.Dec.{eqb}
-use borrow.Author.Tests.{eq-eqb, ne-eqb}
 use borrow.Author.Needs.{needs}
 use Rattle.allocation.proofs.weight_at.Statement.{statement}
 use Rattle.allocation.proofs.weight_at.Tie as tie
@@ -12,11 +11,14 @@ use Rattle.allocation.proofs.weight_at.Tie as tie
 member-at-requires : tie.Need-member-at-requires
 member-at-requires c κs = search needs
 
+equals-requires : tie.Need-equals-requires
+equals-requires c κs = search needs
+
 returns : tie.Need-returns
-returns c = simp (sym (c .before .before .before .member-at .ensures) ∙ c .before .before .if1 .taken, eq-eqb _ _ (c .if2 .taken))
+returns c = simp (sym (c .before .before .before .member-at .ensures) ∙ c .before .before .if1 .taken, sym (c .before .equals .ensures) ∙ c .if2 .taken)
 
 returns-2 : tie.Need-returns-2
-returns-2 c = simp (sym (c .before .before .before .member-at .ensures) ∙ c .before .before .if1 .taken, ne-eqb _ _ (c .if2 .left))
+returns-2 c = simp (sym (c .before .before .before .member-at .ensures) ∙ c .before .before .if1 .taken, sym (c .before .equals .ensures) ∙ c .if2 .left)
 
 returns-3 : tie.Need-returns-3
 returns-3 c =
@@ -28,4 +30,4 @@ returns-3 c =
     same false = refl
 
 pub weight-at-spec : {M : Type 1} → statement M
-weight-at-spec = tie.close (tie.spec member-at-requires returns returns-2 returns-3)
+weight-at-spec = tie.close (tie.spec member-at-requires equals-requires returns returns-2 returns-3)

@@ -25,21 +25,21 @@ abbrev μ-loop : tie.MeasureT-loop
 μ-loop units loss real shares ceilings₀ k₀ ceilings k = 8 - k
 
 -- the unit's `real` at the hub, and that with its share it is a machine number
-hub-here : (c : tie.After-struct-known Inv-loop μ-loop) →
-    let a = c .before .before .before .before .before .before .args in
-    let l = c .before .before .before .before .before .loop in
-    c .before .hub-of .result ≡ hubOf (netAt (a .units) (a .t2) (l .k)) (a .loss)
+hub-here : (c : tie.After-hub-of Inv-loop μ-loop) →
+    let a = c .before .before .before .before .before .args in
+    let l = c .before .before .before .before .loop in
+    c .hub-of .result ≡ hubOf (netAt (a .units) (a .t2) (l .k)) (a .loss)
 hub-here c =
-    let a = c .before .before .before .before .before .before .args in
-    c .before .hub-of .ensures ∙ ap (λ (n : NetKwh). hubOf n (a .loss)) (c .before .before .net-at .ensures)
+    let a = c .before .before .before .before .before .args in
+    c .hub-of .ensures ∙ ap (λ (n : NetKwh). hubOf n (a .loss)) (c .before .net-at .ensures)
 
-here : (c : tie.After-struct-known Inv-loop μ-loop) →
-    let a = c .before .before .before .before .before .before .args in
-    let l = c .before .before .before .before .before .loop in
-    c .before .hub-of .result .0 + getD (a .t4) (l .k) 0 ≤ 110000000000
+here : (c : tie.After-hub-of Inv-loop μ-loop) →
+    let a = c .before .before .before .before .before .args in
+    let l = c .before .before .before .before .loop in
+    c .hub-of .result .0 + getD (a .t4) (l .k) 0 ≤ 110000000000
 here c =
-    let start = c .before .before .before .before .before .before in
-    let l = c .before .before .before .before .before .loop in
+    let start = c .before .before .before .before .before in
+    let l = c .before .before .before .before .loop in
     let real = netAt (start .args .units) (start .args .t2) (l .k) in
     omega (
       arith,
@@ -74,8 +74,8 @@ mul-share c = search needs
 array-read-share : tie.Need-array-read-share Inv-loop μ-loop
 array-read-share c = search needs
 
-add-t20 : tie.Need-add-t20 Inv-loop μ-loop
-add-t20 c = omega (arith, here c)
+plus-requires : tie.Need-plus-requires Inv-loop μ-loop
+plus-requires c κs = omega (arith, here c)
 
 mul-ceilings : tie.Need-mul-ceilings Inv-loop μ-loop
 mul-ceilings c = search needs
@@ -93,12 +93,12 @@ loop-again : tie.Need-loop-again Inv-loop μ-loop
 loop-again c =
     let a = c .before .before .before .before .before .before .args in
     let l = c .before .before .before .before .before .loop in
-    let grains : ℕ → HubGrains = λ x. record { 0 = x } in (
+    let e = c .plus .ensures ∙ ap (λ (g : HubGrains). g .0 + getD (a .t4) (l .k) 0) (hub-here (c .before)) in (
       omega arith,
       simp length-set (l .inv .1),
       filled-next (λ i. record { 0 = hubOf (netAt (a .units) (a .t2) i) (a .loss) .0 + getD (a .t4) i 0 }) (l .ceilings) (l .k) _ (omega arith)
           (l .inv .2)
-          (ap (λ (g : HubGrains). grains (g .0 + getD (a .t4) (l .k) 0)) (hub-here c)),
+          (λ i. record { 0 = e i }),
     )
 
 returns : tie.Need-returns Inv-loop μ-loop
@@ -122,7 +122,7 @@ with-shares-spec =
     hub-of-requires
     mul-share
     array-read-share
-    add-t20
+    plus-requires
     mul-ceilings
     array-set-from-ceilings
     add-k
