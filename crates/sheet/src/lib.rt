@@ -320,16 +320,15 @@ pub fn read_sheet(text: &[u8], start: u64) -> SheetRead
 pub fn monthly_of(sheet: Sheet) -> [GrossKwh; 8]
     ensures { λ r. ⌜ r ≡ monthlyOf sheet ⌝ }
 {
-    [
-        GrossKwh(sheet.unit[0].monthly.0),
-        GrossKwh(sheet.unit[1].monthly.0),
-        GrossKwh(sheet.unit[2].monthly.0),
-        GrossKwh(sheet.unit[3].monthly.0),
-        GrossKwh(sheet.unit[4].monthly.0),
-        GrossKwh(sheet.unit[5].monthly.0),
-        GrossKwh(sheet.unit[6].monthly.0),
-        GrossKwh(sheet.unit[7].monthly.0),
-    ]
+    let mut monthly = [GrossKwh(0); 8];
+    let mut k: usize = 0;
+    while k < 8 {
+        let u = sheet.unit[k];
+        let power = u.monthly;
+        monthly[k] = power;
+        k += 1;
+    }
+    monthly
 }
 
 // Whether a unit's offers of the 24 hours keep their ranges and orders.
@@ -354,14 +353,15 @@ fn unit_holds(u: UnitSheet) -> bool
     if u.own > 2000 {
         return false;
     }
-    let nominal = u.nominal.0;
-    if nominal < 1 {
+    let nominal = u.nominal;
+    if GrossKwh(1).exceeds(nominal) {
         return false;
     }
-    if nominal > 1000000 {
+    if nominal.exceeds(GrossKwh(1000000)) {
         return false;
     }
-    if u.monthly.0 > 1000000 {
+    let monthly = u.monthly;
+    if monthly.exceeds(GrossKwh(1000000)) {
         return false;
     }
     offers_hold(u)

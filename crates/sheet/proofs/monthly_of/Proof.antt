@@ -1,50 +1,74 @@
--- Each entry is its unit's.
+-- The entries passed are their units' powers.
 -- Assumes nothing.
-use mathlib.Core.Path.{refl}
+use mathlib.Core.Path.{_≡_, refl, ap, _∙_}
+use Prim.Native.Nat.{ℕ, _-_, _≤_}
+use native.Mathlib.Omega.{arith}
+use lib.ListN.{length, length-set, take}
 use Rattle.finite.specs.Finite.{tabulate}
-use Rattle.sheet.specs.Ranges.{monthlyOf}
+use Rattle.finite.proofs.Tables.{filled-next, filled}
+use Rattle.energy.specs.declared.GrossKwh.{GrossKwh}
+use Rattle.sheet.specs.Ranges.{unitAt, monthlyOf}
 use borrow.Author.Needs.{needs}
 use Rattle.sheet.proofs.monthly_of.Statement.{statement}
 use Rattle.sheet.proofs.monthly_of.Tie as tie
 
-element-copy-out-t5 : tie.Need-element-copy-out-t5
-element-copy-out-t5 c = search needs
+abbrev Inv-loop : tie.InvT-loop
+Inv-loop sheet monthly₀ k₀ monthly k =
+    (k ≤ 8) × (length monthly ≡ 8) × (take k monthly ≡ tabulate k (λ j. unitAt (sheet .unit) j .monthly))
 
-element-copy-out-t9 : tie.Need-element-copy-out-t9
-element-copy-out-t9 c = search needs
+abbrev μ-loop : tie.MeasureT-loop
+μ-loop sheet monthly₀ k₀ monthly k = 8 - k
 
-element-copy-out-t13 : tie.Need-element-copy-out-t13
-element-copy-out-t13 c = search needs
+loop-holds : tie.Need-loop-holds Inv-loop μ-loop
+unfolding tabulate
+loop-holds c = (omega arith, refl, refl)
 
-element-copy-out-t17 : tie.Need-element-copy-out-t17
-element-copy-out-t17 c = search needs
+mul-u : tie.Need-mul-u Inv-loop μ-loop
+mul-u c = search needs
 
-element-copy-out-t21 : tie.Need-element-copy-out-t21
-element-copy-out-t21 c = search needs
+element-copy-out-u : tie.Need-element-copy-out-u Inv-loop μ-loop
+element-copy-out-u c = search needs
 
-element-copy-out-t25 : tie.Need-element-copy-out-t25
-element-copy-out-t25 c = search needs
+mul-monthly : tie.Need-mul-monthly Inv-loop μ-loop
+mul-monthly c = search needs
 
-element-copy-out-t29 : tie.Need-element-copy-out-t29
-element-copy-out-t29 c = search needs
+array-set-from-monthly : tie.Need-array-set-from-monthly Inv-loop μ-loop
+array-set-from-monthly c = search needs
 
-element-copy-out-t33 : tie.Need-element-copy-out-t33
-element-copy-out-t33 c = search needs
+add-k : tie.Need-add-k Inv-loop μ-loop
+add-k c = search needs
 
-returns : tie.Need-returns
-unfolding monthlyOf tabulate
-returns c = refl
+loop-less : tie.Need-loop-less Inv-loop μ-loop
+loop-less c = search needs
+
+loop-again : tie.Need-loop-again Inv-loop μ-loop
+loop-again c =
+    let s = c .before .before .before .before .args .t1 in
+    let l = c .before .before .before .loop in
+    let f : ℕ → GrossKwh = λ j. unitAt (s .unit) j .monthly in
+    (omega arith, simp length-set (l .inv .1), filled-next f (l .monthly) (l .k) _ (omega (arith, l .inv .1)) (l .inv .2) refl)
+
+returns : tie.Need-returns Inv-loop μ-loop
+unfolding monthlyOf
+returns c =
+    let s = c .before .before .args .t1 in
+    let l = c .before .loop in
+    let f : ℕ → GrossKwh = λ j. unitAt (s .unit) j .monthly in
+    let e : l .k ≡ 8 = omega arith in
+    filled f (l .monthly) (l .k) (omega (arith, l .inv .1)) (l .inv .2) ∙ ap (λ (n : ℕ). tabulate n f) e
 
 pub monthly-of-spec : {M : Type 1} → statement M
 monthly-of-spec =
     tie.close
     (tie.spec
-    element-copy-out-t5
-    element-copy-out-t9
-    element-copy-out-t13
-    element-copy-out-t17
-    element-copy-out-t21
-    element-copy-out-t25
-    element-copy-out-t29
-    element-copy-out-t33
+    Inv-loop
+    μ-loop
+    loop-holds
+    mul-u
+    element-copy-out-u
+    mul-monthly
+    array-set-from-monthly
+    add-k
+    loop-less
+    loop-again
     returns)
