@@ -202,7 +202,7 @@ fn place_holds(member: bool, u: UnitSheet, kwh: &[u64], k: usize) -> bool
         if held > 0 {
             let o = u.offers[h];
             let limit = limit_of(member, o);
-            if held > limit.0 {
+            if HubKwh(held).exceeds(limit) {
                 return false;
             }
         }
@@ -271,7 +271,7 @@ fn energies_hold(energy: [HubGrains; 192]) -> bool
     let mut at: usize = 0;
     while at < 192 {
         let grains = energy[at];
-        if grains.0 > 80000000000 {
+        if grains.exceeds(HubGrains(80000000000)) {
             return false;
         }
         at += 1;

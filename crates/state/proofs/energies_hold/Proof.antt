@@ -4,7 +4,7 @@ use Prim.Native.Nat.{ℕ, _-_, _≤_}
 use mathlib.Core.Path.{_≡_, refl, ap, sym, _∙_}
 use mathlib.Core.Bool.{true}
 use native.Mathlib.Omega.{arith}
-use borrow.Author.Tests.{lt-leb, le-leb}
+use borrow.Author.Tests.{lt-leb, le-leb, ltb-true, ltb-false}
 use Rattle.finite.specs.Finite.{every}
 use Rattle.finite.proofs.Tests.{every-next, every-fails}
 use lib.Dec.{leb}
@@ -32,11 +32,14 @@ mul-grains c = search needs
 array-copy-out-grains : tie.Need-array-copy-out-grains Inv-loop μ-loop
 array-copy-out-grains c = search needs
 
+exceeds-requires : tie.Need-exceeds-requires Inv-loop μ-loop
+exceeds-requires c κs = search needs
+
 returns : tie.Need-returns Inv-loop μ-loop
 returns c =
     let l = c .before .before .before .before .loop in
     let a = c .before .before .before .before .before .args in
-    sym (every-fails entries (l .at) (λ j. leb (getD (a .t1) j noGrains .0) mostEnergy) (omega arith) (lt-leb _ _ (c .if1 .taken)))
+    sym (every-fails entries (l .at) (λ j. leb (getD (a .t1) j noGrains .0) mostEnergy) (omega arith) (lt-leb _ _ (ltb-true mostEnergy (getD (a .t1) (l .at) noGrains .0) (sym (c .before .exceeds .ensures) ∙ c .if1 .taken))))
 
 add-at : tie.Need-add-at Inv-loop μ-loop
 add-at c = search needs
@@ -48,7 +51,7 @@ loop-again : tie.Need-loop-again Inv-loop μ-loop
 loop-again c =
     let l = c .before .before .before .before .loop in
     let a = c .before .before .before .before .before .args in
-    (omega arith, every-next (l .at) (λ j. leb (getD (a .t1) j noGrains .0) mostEnergy) (l .inv .1) (le-leb _ _ (c .if1 .left)))
+    (omega arith, every-next (l .at) (λ j. leb (getD (a .t1) j noGrains .0) mostEnergy) (l .inv .1) (le-leb _ _ (ltb-false mostEnergy (getD (a .t1) (l .at) noGrains .0) (sym (c .before .exceeds .ensures) ∙ c .if1 .left))))
 
 returns-2 : tie.Need-returns-2 Inv-loop μ-loop
 returns-2 c =
@@ -66,6 +69,7 @@ energies-hold-spec =
     loop-holds
     mul-grains
     array-copy-out-grains
+    exceeds-requires
     returns
     add-at
     loop-less

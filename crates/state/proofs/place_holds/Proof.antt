@@ -5,7 +5,7 @@ use mathlib.Core.Path.{_≡_, refl, ap, sym, _∙_}
 use mathlib.Core.Bool.{Bool, true}
 use mathlib.Core.Logic.{⊎-elim}
 use native.Mathlib.Omega.{arith}
-use borrow.Author.Tests.{lt-leb, le-leb}
+use borrow.Author.Tests.{lt-leb, le-leb, ltb-true, ltb-false}
 use Rattle.finite.specs.Finite.{every}
 use Rattle.finite.proofs.Tests.{every-next, every-fails}
 use lib.Dec.{leb}
@@ -48,11 +48,14 @@ element-copy-out-o c = search needs
 limit-of-requires : tie.Need-limit-of-requires Inv-loop μ-loop
 limit-of-requires c κs = search needs
 
+exceeds-requires : tie.Need-exceeds-requires Inv-loop μ-loop
+exceeds-requires c κs = search needs
+
 returns : tie.Need-returns Inv-loop μ-loop
 returns c =
     let l = c .before .before .before .before .before .before .before .loop in
     let a = c .before .before .before .before .before .before .before .before .before .args in
-    sym (every-fails hours (l .h) (λ h. leb (getD (a .kwh .now) (entryOf h (a .k)) 0) (limitOf (a .member) (offerAt (a .t2) h) .0)) (omega arith) (rw (← c .before .before .limit-of .ensures) (lt-leb _ _ (c .if2 .taken))))
+    sym (every-fails hours (l .h) (λ h. leb (getD (a .kwh .now) (entryOf h (a .k)) 0) (limitOf (a .member) (offerAt (a .t2) h) .0)) (omega arith) (rw (← c .before .before .limit-of .ensures) (lt-leb _ _ (ltb-true (c .before .before .limit-of .result .0) (getD (a .kwh .now) (entryOf (l .h) (a .k)) 0) (sym (c .before .exceeds .ensures) ∙ c .if2 .taken)))))
 
 add-h : tie.Need-add-h Inv-loop μ-loop
 add-h c = search needs
@@ -66,7 +69,7 @@ loop-again c =
     let a = c .before .before .before .before .before .args in
     let f : ℕ → Bool = (λ h. leb (getD (a .kwh .now) (entryOf h (a .k)) 0) (limitOf (a .member) (offerAt (a .t2) h) .0)) in
     ⊎-elim
-    (λ w. (omega arith, every-next (l .h) f (l .inv .1) (rw (← w .2 .ensures) (le-leb _ _ (w .4 .left)))))
+    (λ w. (omega arith, every-next (l .h) f (l .inv .1) (rw (← w .2 .ensures) (le-leb _ _ (ltb-false (w .2 .result .0) (getD (a .kwh .now) (entryOf (l .h) (a .k)) 0) (sym (w .3 .ensures) ∙ w .4 .left))))))
     (λ w. (omega arith, every-next (l .h) f (l .inv .1) (le-leb (getD (a .kwh .now) (entryOf (l .h) (a .k)) 0) (limitOf (a .member) (offerAt (a .t2) (l .h)) .0) (omega (arith, w .left)))))
     (c .if1 .came)
 
@@ -92,6 +95,7 @@ place-holds-spec =
     mul-o
     element-copy-out-o
     limit-of-requires
+    exceeds-requires
     returns
     add-h
     loop-less
