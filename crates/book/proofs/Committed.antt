@@ -1,12 +1,12 @@
 -- A take, release or move in numbers is what its rows say: where 10 and 11 pass, the places that are read and written are those of its hour and units,
 -- and where they do not, the rest is not looked at.
 -- Assumes nothing.
-use mathlib.Core.Path.{_≡_, refl, ap, ap₂, sym, _∙_, subst}
+use mathlib.Core.Path.{_≡_, refl, ap, ap₂, sym, _∙_}
 use mathlib.Core.Bool.{Bool, true, false, cond, not, _&&_}
 use mathlib.Core.List.{List, _∷_}
 use Prim.Native.Nat.{ℕ, _+_, _-_, _/_, _%_, _≤_, _<_}
 use native.Mathlib.Omega.{arith}
-use borrow.Author.Tests.{ltb-false, le-ltb, eqb-true, eqb-false, ne-eqb, leb-true, not-false}
+use borrow.Author.Tests.{ltb-false, le-ltb, eqb-true, eqb-false, leb-true, not-false}
 use lib.Dec.{leb, eqb}
 use lib.ListN.{getD, set}
 use lib.Seq.{set-set}
@@ -82,57 +82,28 @@ module _ (s : Sheet) (b : Book) (hour : ℕ) where
       ap (λ (l : List HubKwh). record { commitment = l; mark = b .mark; energy = b .energy; amounts = b .amounts })
       (set-set (b .commitment) p (record { 0 = x }) (record { 0 = y }) ∙ ap (λ (n : ℕ). set (b .commitment) n (record { 0 = y })) e)
 
--- what an accepted one tells
-take-told : (units hour unit kwh : ℕ) (settled : Bool) (held last : ℕ) → verdict (takeTests units hour unit kwh settled held last) ≡ Accepted → held + kwh ≤ last
-take-told units hour unit kwh settled held last e =
+-- an accepted one that adds finds room
+take-room : (units hour unit kwh : ℕ) (settled : Bool) (held last : ℕ) → verdict (takeTests units hour unit kwh settled held last) ≡ Accepted → held + kwh ≤ last
+take-room units hour unit kwh settled held last e =
     ltb-false _ _ (passed _ _ (passed _ _ (passed _ _ (passed _ _ (passed _ _ e .1) .1) .1) .1) .0)
 
-release-told : (units hour unit kwh : ℕ) (settled : Bool) (held : ℕ) → verdict (releaseTests units hour unit kwh settled held) ≡ Accepted → kwh ≤ held
-release-told units hour unit kwh settled held e =
-    ltb-false _ _ (passed _ _ (passed _ _ (passed _ _ (passed _ _ (passed _ _ e .1) .1) .1) .1) .0)
-
-move-told : (units hour from to kwh : ℕ) (settled : Bool) (source held last : ℕ) → verdict (moveTests units hour from to kwh settled source held last) ≡ Accepted
-    → (kwh ≤ source) × (held + kwh ≤ last)
-move-told units hour from to kwh settled source held last e =
-    let late = passed _ _ (passed _ _ (passed _ _ (passed _ _ (passed _ _ e .1) .1) .1) .1) .1 in
-    (ltb-false _ _ (passed _ _ late .0), ltb-false _ _ (passed _ _ (passed _ _ late .1) .0))
-
-pub record Told (kind kwh source held last : ℕ) : Type 0 where
-  pub gives : eqb kind 1 ≡ false → eqb kind 2 ≡ false → kwh ≤ source
-  pub less : eqb kind 2 ≡ true → kwh ≤ held
-  pub room : eqb kind 2 ≡ false → held + kwh ≤ last
+move-room : (units hour from to kwh : ℕ) (settled : Bool) (source held last : ℕ) → verdict (moveTests units hour from to kwh settled source held last) ≡ Accepted
+    → held + kwh ≤ last
+move-room units hour from to kwh settled source held last e =
+    ltb-false _ _ (passed _ _ (passed _ _ (passed _ _ (passed _ _ (passed _ _ (passed _ _ (passed _ _ e .1) .1) .1) .1) .1) .1) .0)
 
 module _ (kind units hour unit to kwh : ℕ) (settled : Bool) (source held last : ℕ) where
-  pub verdict-told : commitVerdict kind units hour unit to kwh settled source held last ≡ Accepted → Told kind kwh source held last
+  pub room : commitVerdict kind units hour unit to kwh settled source held last ≡ Accepted → eqb kind 2 ≡ false → held + kwh ≤ last
   unfolding commitVerdict
-  verdict-told = by (eqb kind 1) (eqb kind 2) refl refl
+  room = by (eqb kind 1) (eqb kind 2)
     where
-      by : (t u : Bool) → eqb kind 1 ≡ t → eqb kind 2 ≡ u
+      by : (t u : Bool)
           → cond t (verdict (takeTests units hour unit kwh settled held last))
           (cond u (verdict (releaseTests units hour unit kwh settled held)) (verdict (moveTests units hour unit to kwh settled source held last))) ≡ Accepted
-          → Told kind kwh source held last
-      by true true p q e = absurd (let a = eqb-true kind 1 p in let b = eqb-true kind 2 q in omega arith)
-      by true false p q e =
-          let room = take-told units hour unit kwh settled held last e in
-          record {
-            gives = λ n1 n2. absurd (let z : _≡_ {A = ℕ} 0 1 = cc in omega arith);
-            less = λ n. absurd (let z : _≡_ {A = ℕ} 0 1 = cc in omega arith);
-            room = λ n. room;
-          }
-      by false true p q e =
-          let less = release-told units hour unit kwh settled held e in
-          record {
-            gives = λ n1 n2. absurd (let z : _≡_ {A = ℕ} 0 1 = cc in omega arith);
-            less = λ n. less;
-            room = λ n. absurd (let z : _≡_ {A = ℕ} 0 1 = cc in omega arith);
-          }
-      by false false p q e =
-          let both = move-told units hour unit to kwh settled source held last e in
-          record {
-            gives = λ n1 n2. both .0;
-            less = λ n. absurd (let z : _≡_ {A = ℕ} 0 1 = cc in omega arith);
-            room = λ n. both .1;
-          }
+          → u ≡ false → held + kwh ≤ last
+      by true u e n = take-room units hour unit kwh settled held last e
+      by false true e n = absurd (let z : _≡_ {A = ℕ} 0 1 = cc in omega arith)
+      by false false e n = move-room units hour unit to kwh settled source held last e
 
 -- by its kind, on a book
 module _ (s : Sheet) (b : Book) (q : Request) (count places : ℕ) where
@@ -232,27 +203,11 @@ module _ (s : Sheet) (b : Book) (count start kind hour unit to kwh : ℕ) (h fro
   unfolding commitmentDecided
   accepted-is x y x-is y-is e = rw (sym t-is, sym target-is, sym from-is, sym h-is, sym last-is, x-is, y-is, e) refl
 
-  -- what is subtracted is there
-  pub source-enough : found ≡ Accepted → eqb kind 1 ≡ false → kwh ≤ getD (b .commitment) from noKwh .0
-  source-enough e n1 = by (eqb kind 2) refl
-    where
-      told : Told kind kwh (getD (b .commitment) from noKwh .0) (getD (b .commitment) target noKwh .0) (last .0)
-      told = verdict-told kind (s .units) hour unit to kwh (eqb (getD (b .mark) h 0) settledMark) _ _ _ e
-
-      by : (u : Bool) → eqb kind 2 ≡ u → kwh ≤ getD (b .commitment) from noKwh .0
-      by true k2 =
-          let n3 : eqb kind 3 ≡ false = ne-eqb kind 3 (λ k3. let x = eqb-true kind 2 k2 in omega arith) in
-          let same : target ≡ from = target-is ∙ (ap (entryPlace hour) (t-is ∙ simp n3) ∙ sym from-is) in
-          subst (λ (n : ℕ). kwh ≤ getD (b .commitment) n noKwh .0) same (told .less k2)
-      by false k2 = told .gives n1 k2
-
-  pub target-enough : found ≡ Accepted → eqb kind 2 ≡ true → kwh ≤ getD (b .commitment) target noKwh .0
-  target-enough e = verdict-told kind (s .units) hour unit to kwh (eqb (getD (b .mark) h 0) settledMark) _ _ _ e .less
-
+  -- what is added fits
   pub target-room : found ≡ Accepted → last .0 < 18446744073709551616 → eqb kind 2 ≡ false
       → getD (b .commitment) target noKwh .0 + kwh < 18446744073709551616
   target-room e l k2 =
-      let r = verdict-told kind (s .units) hour unit to kwh (eqb (getD (b .mark) h 0) settledMark) _ _ _ e .room k2 in
+      let r = room kind (s .units) hour unit to kwh (eqb (getD (b .mark) h 0) settledMark) _ _ _ e k2 in
       omega (arith, r, l)
 
 -- a take, release or move by its parts

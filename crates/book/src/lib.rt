@@ -1,7 +1,7 @@
 // The calls on the book, decided: the first of its rows that holds refuses a call, and an accepted one changes and posts what the crate `ledger` says.
 // The functions over the lent journal stand in the crate above.
 ghost use mathlib.Core.Path.{_≡_};
-ghost use mathlib.Core.Bool.{true, false, cond, _&&_, _||_};
+ghost use mathlib.Core.Bool.{true, false, _&&_, _||_};
 ghost use lib.Dec.{leb, ltb, eqb};
 ghost use Prim.Native.Nat.{ℕ, _+_, _/_, _%_, _^_, _≤_, _<_, min};
 ghost use lib.ListN.{getD};
@@ -149,13 +149,13 @@ pub fn entry_place(hour: u64, unit: u64) -> usize
 }
 
 // 22: whether what is held and what comes to it exceed the last offer quantity.
-fn over_offer(last: u64, held: u64, kwh: u64) -> bool
-    ensures { λ r. ⌜ r ≡ ltb last (held + kwh) ⌝ }
+fn over_offer(last: HubKwh, held: HubKwh, kwh: HubKwh) -> bool
+    ensures { λ r. ⌜ r ≡ ltb (last .0) (held .0 + kwh .0) ⌝ }
 {
-    if last < kwh {
+    if kwh.exceeds(last) {
         return true;
     }
-    last - kwh < held
+    held.exceeds(last.above(kwh))
 }
 
 // take: 10 11 20 21 22.
@@ -163,12 +163,12 @@ fn take_verdict(
     units: u64,
     hour: u64,
     unit: u64,
-    kwh: u64,
+    kwh: HubKwh,
     settled: bool,
-    held: u64,
-    last: u64,
+    held: HubKwh,
+    last: HubKwh,
 ) -> Verdict
-    ensures { λ r. ⌜ r ≡ verdict (takeTests units hour unit kwh settled held last) ⌝ }
+    ensures { λ r. ⌜ r ≡ verdict (takeTests units hour unit (kwh .0) settled (held .0) (last .0)) ⌝ }
 {
     if hour_bad(hour) {
         return Verdict::Refused(Refusal::HourRange);
@@ -179,7 +179,7 @@ fn take_verdict(
     if settled {
         return Verdict::Refused(Refusal::HourSettled);
     }
-    if kwh == 0 {
+    if kwh.equals(HubKwh(0)) {
         return Verdict::Refused(Refusal::NoAmount);
     }
     if over_offer(last, held, kwh) {
@@ -189,8 +189,15 @@ fn take_verdict(
 }
 
 // release: 10 11 20 21 23.
-fn release_verdict(units: u64, hour: u64, unit: u64, kwh: u64, settled: bool, held: u64) -> Verdict
-    ensures { λ r. ⌜ r ≡ verdict (releaseTests units hour unit kwh settled held) ⌝ }
+fn release_verdict(
+    units: u64,
+    hour: u64,
+    unit: u64,
+    kwh: HubKwh,
+    settled: bool,
+    held: HubKwh,
+) -> Verdict
+    ensures { λ r. ⌜ r ≡ verdict (releaseTests units hour unit (kwh .0) settled (held .0)) ⌝ }
 {
     if hour_bad(hour) {
         return Verdict::Refused(Refusal::HourRange);
@@ -201,10 +208,10 @@ fn release_verdict(units: u64, hour: u64, unit: u64, kwh: u64, settled: bool, he
     if settled {
         return Verdict::Refused(Refusal::HourSettled);
     }
-    if kwh == 0 {
+    if kwh.equals(HubKwh(0)) {
         return Verdict::Refused(Refusal::NoAmount);
     }
-    if held < kwh {
+    if kwh.exceeds(held) {
         return Verdict::Refused(Refusal::HeldLess);
     }
     Verdict::Accepted
@@ -216,13 +223,13 @@ fn move_verdict(
     hour: u64,
     from: u64,
     to: u64,
-    kwh: u64,
+    kwh: HubKwh,
     settled: bool,
-    source: u64,
-    held: u64,
-    last: u64,
+    source: HubKwh,
+    held: HubKwh,
+    last: HubKwh,
 ) -> Verdict
-    ensures { λ r. ⌜ r ≡ verdict (moveTests units hour from to kwh settled source held last) ⌝ }
+    ensures { λ r. ⌜ r ≡ verdict (moveTests units hour from to (kwh .0) settled (source .0) (held .0) (last .0)) ⌝ }
 {
     if hour_bad(hour) {
         return Verdict::Refused(Refusal::HourRange);
@@ -236,10 +243,10 @@ fn move_verdict(
     if settled {
         return Verdict::Refused(Refusal::HourSettled);
     }
-    if kwh == 0 {
+    if kwh.equals(HubKwh(0)) {
         return Verdict::Refused(Refusal::NoAmount);
     }
-    if source < kwh {
+    if kwh.exceeds(source) {
         return Verdict::Refused(Refusal::HeldLess);
     }
     if over_offer(last, held, kwh) {
@@ -256,13 +263,13 @@ fn commit_verdict(
     hour: u64,
     unit: u64,
     to: u64,
-    kwh: u64,
+    kwh: HubKwh,
     settled: bool,
-    source: u64,
-    held: u64,
-    last: u64,
+    source: HubKwh,
+    held: HubKwh,
+    last: HubKwh,
 ) -> Verdict
-    ensures { λ r. ⌜ r ≡ commitVerdict kind units hour unit to kwh settled source held last ⌝ }
+    ensures { λ r. ⌜ r ≡ commitVerdict kind units hour unit to (kwh .0) settled (source .0) (held .0) (last .0) ⌝ }
 {
     if kind == 1 {
         return take_verdict(units, hour, unit, kwh, settled, held, last);
@@ -284,25 +291,24 @@ pub fn target_of(kind: u64, unit: u64, to: u64) -> u64
 }
 
 // What the unit that gives is left with.
-fn left_with(kind: u64, source: u64, kwh: u64) -> u64
-    requires { ⌜ (eqb kind 1 ≡ false → kwh ≤ source) ⌝ }
-    ensures { λ r. ⌜ r ≡ leftWith kind source kwh ⌝ }
+fn left_with(kind: u64, source: HubKwh, kwh: HubKwh) -> HubKwh
+    ensures { λ r. ⌜ r .0 ≡ leftWith kind (source .0) (kwh .0) ⌝ }
 {
     if kind == 1 {
         return source;
     }
-    source - kwh
+    source.above(kwh)
 }
 
 // What the unit that gets holds then.
-fn held_then(kind: u64, held: u64, kwh: u64) -> u64
-    requires { ⌜ (eqb kind 2 ≡ true → kwh ≤ held) × (eqb kind 2 ≡ false → held + kwh < 2 ^ 64) ⌝ }
-    ensures { λ r. ⌜ r ≡ heldThen kind held kwh ⌝ }
+fn held_then(kind: u64, held: HubKwh, kwh: HubKwh) -> HubKwh
+    requires { ⌜ (eqb kind 2 ≡ false → held .0 + kwh .0 < 2 ^ 64) ⌝ }
+    ensures { λ r. ⌜ r .0 ≡ heldThen kind (held .0) (kwh .0) ⌝ }
 {
     if kind == 2 {
-        return held - kwh;
+        return held.above(kwh);
     }
-    held + kwh
+    held.plus(kwh)
 }
 
 // A take, release or move, where the book is known to be in its ranges and `holds` says whether the sheet is.
@@ -319,7 +325,7 @@ pub fn shift_of(
     ensures { λ r. ⌜ r ≡ shiftOf holds units asked settled source held last ⌝ }
 {
     let kind = asked.kind;
-    let kwh = asked.kwh;
+    let kwh = HubKwh(asked.kwh);
     if !holds {
         return Shift {
             number: 9,
@@ -335,9 +341,9 @@ pub fn shift_of(
         asked.to,
         kwh,
         settled,
-        source.0,
-        held.0,
-        last.0,
+        source,
+        held,
+        last,
     );
     match verdict {
         Verdict::Refused(refusal) => Shift {
@@ -347,8 +353,8 @@ pub fn shift_of(
         },
         Verdict::Accepted => Shift {
             number: 0,
-            from: HubKwh(left_with(kind, source.0, kwh)),
-            to: HubKwh(held_then(kind, held.0, kwh)),
+            from: left_with(kind, source, kwh),
+            to: held_then(kind, held, kwh),
         },
     }
 }
@@ -363,10 +369,10 @@ fn decide_commitment(
     hour: u64,
     unit: u64,
     to: u64,
-    kwh: u64,
+    kwh: HubKwh,
 ) -> Decision
     requires { ⌜ (1 ≤ kind) × (kind ≤ 3) ⌝ }
-    ensures { λ r. ⌜ r ≡ commitmentDecided sheet book count start kind hour unit to kwh ⌝ }
+    ensures { λ r. ⌜ r ≡ commitmentDecided sheet book count start kind hour unit to (kwh .0) ⌝ }
 {
     let units = sheet.units;
     let h = hour_place(hour);
@@ -384,16 +390,16 @@ fn decide_commitment(
         to,
         kwh,
         settled,
-        source.0,
-        held.0,
-        last.0,
+        source,
+        held,
+        last,
     );
     match verdict {
         Verdict::Refused(refusal) => refused(book, count, start, refusal),
         Verdict::Accepted => {
             let mut after = book;
-            after.commitment[from] = HubKwh(left_with(kind, source.0, kwh));
-            after.commitment[target] = HubKwh(held_then(kind, held.0, kwh));
+            after.commitment[from] = left_with(kind, source, kwh);
+            after.commitment[target] = held_then(kind, held, kwh);
             changed(after, count)
         }
     }
@@ -714,7 +720,7 @@ fn decide_request(sheet: Sheet, book: Book, request: Request, count: u64, places
     let start = request.start;
     let hour = request.hour;
     let unit = request.unit;
-    let kwh = request.kwh;
+    let kwh = HubKwh(request.kwh);
     if commits(kind) {
         return decide_commitment(sheet, book, count, start, kind, hour, unit, request.to, kwh);
     }

@@ -1,7 +1,7 @@
 -- Each return is one way through the rows of the call; where it is accepted, both stores are the definition's.
 -- Assumes nothing.
 use mathlib.Core.Path.{sym, _∙_}
-use Rattle.book.proofs.Committed.{refused-is, accepted-is, source-enough, target-enough, target-room}
+use Rattle.book.proofs.Committed.{refused-is, accepted-is, target-room}
 use borrow.Author.Needs.{needs}
 use Rattle.book.proofs.decide_commitment.Statement.{statement}
 use Rattle.book.proofs.decide_commitment.Tie as tie
@@ -52,7 +52,7 @@ enum-told : tie.Need-enum-told
 enum-told c = search needs
 
 left-with-requires : tie.Need-left-with-requires
-left-with-requires c κs = source-enough (c .before .before .before .before .before .before .before .before .before .before .before .args .sheet) (c .before .before .before .before .before .before .before .before .before .before .before .args .t2) (c .before .before .before .before .before .before .before .before .before .before .before .args .count) (c .before .before .before .before .before .before .before .before .before .before .before .args .start) (c .before .before .before .before .before .before .before .before .before .before .before .args .kind) (c .before .before .before .before .before .before .before .before .before .before .before .args .hour) (c .before .before .before .before .before .before .before .before .before .before .before .args .unit) (c .before .before .before .before .before .before .before .before .before .before .before .args .to) (c .before .before .before .before .before .before .before .before .before .before .before .args .kwh) _ _ _ _ _ (c .before .before .before .before .before .before .before .before .before .before .hour-place .ensures .0) (c .before .before .before .before .before .before .before .before .before .entry-place .ensures .0) (c .before .before .before .before .before .before .before .before .target-of .ensures) (c .before .before .before .before .before .before .before .entry-place2 .ensures .0) (c .before .before .before .limit-at .ensures) (sym (c .before .before .commit-verdict .ensures) ∙ c .enum-told .given .1)
+left-with-requires c κs = search needs
 
 mul-after : tie.Need-mul-after
 mul-after c = search needs
@@ -61,13 +61,10 @@ element-set-from-after : tie.Need-element-set-from-after
 element-set-from-after c = search needs
 
 held-then-requires : tie.Need-held-then-requires
-held-then-requires c κs = (
-  target-enough (c .before .before .before .before .before .before .before .before .before .before .before .before .args .sheet) (c .before .before .before .before .before .before .before .before .before .before .before .before .args .t2) (c .before .before .before .before .before .before .before .before .before .before .before .before .args .count) (c .before .before .before .before .before .before .before .before .before .before .before .before .args .start) (c .before .before .before .before .before .before .before .before .before .before .before .before .args .kind) (c .before .before .before .before .before .before .before .before .before .before .before .before .args .hour) (c .before .before .before .before .before .before .before .before .before .before .before .before .args .unit) (c .before .before .before .before .before .before .before .before .before .before .before .before .args .to) (c .before .before .before .before .before .before .before .before .before .before .before .before .args .kwh) _ _ _ _ _ (c .before .before .before .before .before .before .before .before .before .before .before .hour-place .ensures .0) (c .before .before .before .before .before .before .before .before .before .before .entry-place .ensures .0) (c .before .before .before .before .before .before .before .before .before .target-of .ensures) (c .before .before .before .before .before .before .before .before .entry-place2 .ensures .0) (c .before .before .before .before .limit-at .ensures) (sym (c .before .before .before .commit-verdict .ensures) ∙ c .before .enum-told .given .1),
-  target-room (c .before .before .before .before .before .before .before .before .before .before .before .before .args .sheet) (c .before .before .before .before .before .before .before .before .before .before .before .before .args .t2) (c .before .before .before .before .before .before .before .before .before .before .before .before .args .count) (c .before .before .before .before .before .before .before .before .before .before .before .before .args .start) (c .before .before .before .before .before .before .before .before .before .before .before .before .args .kind) (c .before .before .before .before .before .before .before .before .before .before .before .before .args .hour) (c .before .before .before .before .before .before .before .before .before .before .before .before .args .unit) (c .before .before .before .before .before .before .before .before .before .before .before .before .args .to) (c .before .before .before .before .before .before .before .before .before .before .before .before .args .kwh) _ _ _ _ _ (c .before .before .before .before .before .before .before .before .before .before .before .hour-place .ensures .0) (c .before .before .before .before .before .before .before .before .before .before .entry-place .ensures .0) (c .before .before .before .before .before .before .before .before .before .target-of .ensures) (c .before .before .before .before .before .before .before .before .entry-place2 .ensures .0) (c .before .before .before .before .limit-at .ensures) (sym (c .before .before .before .commit-verdict .ensures) ∙ c .before .enum-told .given .1) (c .before .before .before .before .limit-at .ok .1 .1 .0 .1),
-)
+held-then-requires c κs = target-room (c .before .before .before .before .before .before .before .before .before .before .before .before .args .sheet) (c .before .before .before .before .before .before .before .before .before .before .before .before .args .t2) (c .before .before .before .before .before .before .before .before .before .before .before .before .args .count) (c .before .before .before .before .before .before .before .before .before .before .before .before .args .start) (c .before .before .before .before .before .before .before .before .before .before .before .before .args .kind) (c .before .before .before .before .before .before .before .before .before .before .before .before .args .hour) (c .before .before .before .before .before .before .before .before .before .before .before .before .args .unit) (c .before .before .before .before .before .before .before .before .before .before .before .before .args .to) (c .before .before .before .before .before .before .before .before .before .before .before .before .args .kwh .0) _ _ _ _ _ (c .before .before .before .before .before .before .before .before .before .before .before .hour-place .ensures .0) (c .before .before .before .before .before .before .before .before .before .before .entry-place .ensures .0) (c .before .before .before .before .before .before .before .before .before .target-of .ensures) (c .before .before .before .before .before .before .before .before .entry-place2 .ensures .0) (c .before .before .before .before .limit-at .ensures) (sym (c .before .before .before .commit-verdict .ensures) ∙ c .before .enum-told .given .1) (c .before .before .before .before .limit-at .ok .1 .1 .0 .1)
 
-mul-t37 : tie.Need-mul-t37
-mul-t37 c = search needs
+mul-t36 : tie.Need-mul-t36
+mul-t36 c = search needs
 
 element-set-from-after-2 : tie.Need-element-set-from-after-2
 element-set-from-after-2 c = search needs
@@ -76,10 +73,10 @@ changed-requires : tie.Need-changed-requires
 changed-requires c κs = search needs
 
 returns : tie.Need-returns
-returns c = c .refused .ensures ∙ refused-is (c .before .before .before .before .before .before .before .before .before .before .before .before .before .args .sheet) (c .before .before .before .before .before .before .before .before .before .before .before .before .before .args .t2) (c .before .before .before .before .before .before .before .before .before .before .before .before .before .args .count) (c .before .before .before .before .before .before .before .before .before .before .before .before .before .args .start) (c .before .before .before .before .before .before .before .before .before .before .before .before .before .args .kind) (c .before .before .before .before .before .before .before .before .before .before .before .before .before .args .hour) (c .before .before .before .before .before .before .before .before .before .before .before .before .before .args .unit) (c .before .before .before .before .before .before .before .before .before .before .before .before .before .args .to) (c .before .before .before .before .before .before .before .before .before .before .before .before .before .args .kwh) _ _ _ _ _ (c .before .before .before .before .before .before .before .before .before .before .before .before .hour-place .ensures .0) (c .before .before .before .before .before .before .before .before .before .before .before .entry-place .ensures .0) (c .before .before .before .before .before .before .before .before .before .before .target-of .ensures) (c .before .before .before .before .before .before .before .before .before .entry-place2 .ensures .0) (c .before .before .before .before .before .limit-at .ensures) _ (sym (c .before .before .before .before .commit-verdict .ensures) ∙ c .before .before .verdict .given .1)
+returns c = c .refused .ensures ∙ refused-is (c .before .before .before .before .before .before .before .before .before .before .before .before .before .args .sheet) (c .before .before .before .before .before .before .before .before .before .before .before .before .before .args .t2) (c .before .before .before .before .before .before .before .before .before .before .before .before .before .args .count) (c .before .before .before .before .before .before .before .before .before .before .before .before .before .args .start) (c .before .before .before .before .before .before .before .before .before .before .before .before .before .args .kind) (c .before .before .before .before .before .before .before .before .before .before .before .before .before .args .hour) (c .before .before .before .before .before .before .before .before .before .before .before .before .before .args .unit) (c .before .before .before .before .before .before .before .before .before .before .before .before .before .args .to) (c .before .before .before .before .before .before .before .before .before .before .before .before .before .args .kwh .0) _ _ _ _ _ (c .before .before .before .before .before .before .before .before .before .before .before .before .hour-place .ensures .0) (c .before .before .before .before .before .before .before .before .before .before .before .entry-place .ensures .0) (c .before .before .before .before .before .before .before .before .before .before .target-of .ensures) (c .before .before .before .before .before .before .before .before .before .entry-place2 .ensures .0) (c .before .before .before .before .before .limit-at .ensures) _ (sym (c .before .before .before .before .commit-verdict .ensures) ∙ c .before .before .verdict .given .1)
 
 returns-2 : tie.Need-returns-2
-returns-2 c = c .changed .ensures ∙ accepted-is (c .before .before .before .before .before .before .before .before .before .before .before .before .before .before .args .sheet) (c .before .before .before .before .before .before .before .before .before .before .before .before .before .before .args .t2) (c .before .before .before .before .before .before .before .before .before .before .before .before .before .before .args .count) (c .before .before .before .before .before .before .before .before .before .before .before .before .before .before .args .start) (c .before .before .before .before .before .before .before .before .before .before .before .before .before .before .args .kind) (c .before .before .before .before .before .before .before .before .before .before .before .before .before .before .args .hour) (c .before .before .before .before .before .before .before .before .before .before .before .before .before .before .args .unit) (c .before .before .before .before .before .before .before .before .before .before .before .before .before .before .args .to) (c .before .before .before .before .before .before .before .before .before .before .before .before .before .before .args .kwh) _ _ _ _ _ (c .before .before .before .before .before .before .before .before .before .before .before .before .before .hour-place .ensures .0) (c .before .before .before .before .before .before .before .before .before .before .before .before .entry-place .ensures .0) (c .before .before .before .before .before .before .before .before .before .before .before .target-of .ensures) (c .before .before .before .before .before .before .before .before .before .before .entry-place2 .ensures .0) (c .before .before .before .before .before .before .limit-at .ensures) _ _ (c .before .before .left-with .ensures) (c .before .held-then .ensures) (sym (c .before .before .before .before .before .commit-verdict .ensures) ∙ c .before .before .before .enum-told .given .1)
+returns-2 c = c .changed .ensures ∙ accepted-is (c .before .before .before .before .before .before .before .before .before .before .before .before .before .before .args .sheet) (c .before .before .before .before .before .before .before .before .before .before .before .before .before .before .args .t2) (c .before .before .before .before .before .before .before .before .before .before .before .before .before .before .args .count) (c .before .before .before .before .before .before .before .before .before .before .before .before .before .before .args .start) (c .before .before .before .before .before .before .before .before .before .before .before .before .before .before .args .kind) (c .before .before .before .before .before .before .before .before .before .before .before .before .before .before .args .hour) (c .before .before .before .before .before .before .before .before .before .before .before .before .before .before .args .unit) (c .before .before .before .before .before .before .before .before .before .before .before .before .before .before .args .to) (c .before .before .before .before .before .before .before .before .before .before .before .before .before .before .args .kwh .0) _ _ _ _ _ (c .before .before .before .before .before .before .before .before .before .before .before .before .before .hour-place .ensures .0) (c .before .before .before .before .before .before .before .before .before .before .before .before .entry-place .ensures .0) (c .before .before .before .before .before .before .before .before .before .before .before .target-of .ensures) (c .before .before .before .before .before .before .before .before .before .before .entry-place2 .ensures .0) (c .before .before .before .before .before .before .limit-at .ensures) _ _ (c .before .before .left-with .ensures) (c .before .held-then .ensures) (sym (c .before .before .before .before .before .commit-verdict .ensures) ∙ c .before .before .before .enum-told .given .1)
 
 pub decide-commitment-spec : {M : Type 1} → statement M
 decide-commitment-spec =
@@ -104,7 +101,7 @@ decide-commitment-spec =
     mul-after
     element-set-from-after
     held-then-requires
-    mul-t37
+    mul-t36
     element-set-from-after-2
     changed-requires
     returns

@@ -1,7 +1,7 @@
 -- Each return is one way through the rows of the call.
 -- Assumes nothing.
 use mathlib.Core.Path.{sym, _∙_}
-use borrow.Author.Tests.{eq-eqb, ne-eqb, lt-ltb, le-ltb}
+use borrow.Author.Tests.{eq-eqb, ne-eqb}
 use Rattle.ledger.specs.Calls.{verdict}
 use borrow.Author.Needs.{needs}
 use Rattle.book.proofs.move_verdict.Statement.{statement}
@@ -29,24 +29,30 @@ returns-4 : tie.Need-returns-4
 unfolding verdict
 returns-4 c = simp ((sym (c .before .before .before .before .before .hour-bad .ensures) ∙ c .before .before .before .before .if1 .left), (sym (c .before .before .before .units-unknown .ensures) ∙ c .before .before .if2 .left), (ne-eqb _ _ (c .before .if3 .left)), (c .if4 .taken))
 
+equals-requires : tie.Need-equals-requires
+equals-requires c κs = search needs
+
 returns-5 : tie.Need-returns-5
 unfolding verdict
-returns-5 c = simp ((sym (c .before .before .before .before .before .before .hour-bad .ensures) ∙ c .before .before .before .before .before .if1 .left), (sym (c .before .before .before .before .units-unknown .ensures) ∙ c .before .before .before .if2 .left), (ne-eqb _ _ (c .before .before .if3 .left)), (c .before .if4 .left), (eq-eqb _ _ (c .if5 .taken)))
+returns-5 c = simp ((sym (c .before .before .before .before .before .before .before .hour-bad .ensures) ∙ c .before .before .before .before .before .before .if1 .left), (sym (c .before .before .before .before .before .units-unknown .ensures) ∙ c .before .before .before .before .if2 .left), (ne-eqb _ _ (c .before .before .before .if3 .left)), (c .before .before .if4 .left), (sym (c .before .equals .ensures) ∙ c .if5 .taken))
+
+exceeds-requires : tie.Need-exceeds-requires
+exceeds-requires c κs = search needs
 
 returns-6 : tie.Need-returns-6
 unfolding verdict
-returns-6 c = simp ((sym (c .before .before .before .before .before .before .before .hour-bad .ensures) ∙ c .before .before .before .before .before .before .if1 .left), (sym (c .before .before .before .before .before .units-unknown .ensures) ∙ c .before .before .before .before .if2 .left), (ne-eqb _ _ (c .before .before .before .if3 .left)), (c .before .before .if4 .left), (ne-eqb _ _ (c .before .if5 .left)), (lt-ltb _ _ (c .if6 .taken)))
+returns-6 c = simp ((sym (c .before .before .before .before .before .before .before .before .before .hour-bad .ensures) ∙ c .before .before .before .before .before .before .before .before .if1 .left), (sym (c .before .before .before .before .before .before .before .units-unknown .ensures) ∙ c .before .before .before .before .before .before .if2 .left), (ne-eqb _ _ (c .before .before .before .before .before .if3 .left)), (c .before .before .before .before .if4 .left), (sym (c .before .before .before .equals .ensures) ∙ c .before .before .if5 .left), (sym (c .before .exceeds .ensures) ∙ c .if6 .taken))
 
 over-offer-requires : tie.Need-over-offer-requires
 over-offer-requires c κs = search needs
 
 returns-7 : tie.Need-returns-7
 unfolding verdict
-returns-7 c = simp ((sym (c .before .before .before .before .before .before .before .before .before .hour-bad .ensures) ∙ c .before .before .before .before .before .before .before .before .if1 .left), (sym (c .before .before .before .before .before .before .before .units-unknown .ensures) ∙ c .before .before .before .before .before .before .if2 .left), (ne-eqb _ _ (c .before .before .before .before .before .if3 .left)), (c .before .before .before .before .if4 .left), (ne-eqb _ _ (c .before .before .before .if5 .left)), (le-ltb _ _ (c .before .before .if6 .left)), (sym (c .before .over-offer .ensures) ∙ c .if7 .taken))
+returns-7 c = simp ((sym (c .before .before .before .before .before .before .before .before .before .before .before .hour-bad .ensures) ∙ c .before .before .before .before .before .before .before .before .before .before .if1 .left), (sym (c .before .before .before .before .before .before .before .before .before .units-unknown .ensures) ∙ c .before .before .before .before .before .before .before .before .if2 .left), (ne-eqb _ _ (c .before .before .before .before .before .before .before .if3 .left)), (c .before .before .before .before .before .before .if4 .left), (sym (c .before .before .before .before .before .equals .ensures) ∙ c .before .before .before .before .if5 .left), (sym (c .before .before .before .exceeds .ensures) ∙ c .before .before .if6 .left), (sym (c .before .over-offer .ensures) ∙ c .if7 .taken))
 
 returns-8 : tie.Need-returns-8
 unfolding verdict
-returns-8 c = simp ((sym (c .before .before .before .before .before .before .before .before .before .hour-bad .ensures) ∙ c .before .before .before .before .before .before .before .before .if1 .left), (sym (c .before .before .before .before .before .before .before .units-unknown .ensures) ∙ c .before .before .before .before .before .before .if2 .left), (ne-eqb _ _ (c .before .before .before .before .before .if3 .left)), (c .before .before .before .before .if4 .left), (ne-eqb _ _ (c .before .before .before .if5 .left)), (le-ltb _ _ (c .before .before .if6 .left)), (sym (c .before .over-offer .ensures) ∙ c .if7 .left))
+returns-8 c = simp ((sym (c .before .before .before .before .before .before .before .before .before .before .before .hour-bad .ensures) ∙ c .before .before .before .before .before .before .before .before .before .before .if1 .left), (sym (c .before .before .before .before .before .before .before .before .before .units-unknown .ensures) ∙ c .before .before .before .before .before .before .before .before .if2 .left), (ne-eqb _ _ (c .before .before .before .before .before .before .before .if3 .left)), (c .before .before .before .before .before .before .if4 .left), (sym (c .before .before .before .before .before .equals .ensures) ∙ c .before .before .before .before .if5 .left), (sym (c .before .before .before .exceeds .ensures) ∙ c .before .before .if6 .left), (sym (c .before .over-offer .ensures) ∙ c .if7 .left))
 
 pub move-verdict-spec : {M : Type 1} → statement M
 move-verdict-spec =
@@ -58,7 +64,9 @@ move-verdict-spec =
     returns-2
     returns-3
     returns-4
+    equals-requires
     returns-5
+    exceeds-requires
     returns-6
     over-offer-requires
     returns-7
