@@ -5,6 +5,7 @@ ghost use Rattle.state.specs.Sizes.{hours, places};
 ghost use Rattle.decimal.specs.Output.{output, written};
 ghost use Rattle.entries.specs.Entries.{field, amountField, refusalText, sheetRefused, answerText, totalText, resultText, lineText, entryLine, stopLine};
 ghost use Rattle.entries.specs.Tables.{commitmentLine, hourCommitments, commitmentLines, settledLine, settledUnits, settledHour, settledHours, tables, totalLine};
+use energy::HubKwh;
 use ledger::Answer;
 use ledger::Refusal;
 use ledger::TotalAnswer;
@@ -133,7 +134,7 @@ fn put_commitment(out: &mut [u8], at: usize, book: Book, h: usize, k: usize) -> 
     ensures { λ r. ⌜ output (now (out .exit)) r ≡ written (output (now (out .entry)) at) (commitmentLine book h k) ⌝ }
 {
     let held = state::commitment_at(book, h, k);
-    if held.0 == 0 {
+    if held.equals(HubKwh(0)) {
         return at;
     }
     let a = decimal::put_bytes(out, at, b"commitment");

@@ -2,7 +2,8 @@
 -- Assumes nothing.
 use Rattle.state.specs.Book.{commitmentAt}
 use Rattle.energy.specs.declared.HubKwh.{HubKwh}
-use borrow.Author.Tests.{eq-eqb, ne-eqb}
+use lib.Dec.{eqb}
+use mathlib.Core.Bool.{true, false}
 use Rattle.entries.specs.Tables.{commitmentLine}
 use Rattle.entries.specs.Entries.{field}
 use Rattle.text.specs.Bytes.{bytes}
@@ -18,11 +19,15 @@ use Rattle.entries.proofs.put_commitment.Tie as tie
 commitment-at-requires : tie.Need-commitment-at-requires
 commitment-at-requires c κs = search needs
 
+equals-requires : tie.Need-equals-requires
+equals-requires c κs = search needs
+
 returns : tie.Need-returns
 unfolding commitmentLine
 returns c =
-    let h : commitmentAt (c .before .before .before .before .args .book) (c .before .before .before .before .args .h) (c .before .before .before .before .args .k) .0 ≡ 0 = ap (λ (x : HubKwh). x .0) (sym (c .before .before .commitment-at .ensures)) ∙ c .if1 .taken in
-    simp (eq-eqb _ _ h) (sym (written-none _))
+    let a = c .before .before .before .before .args in
+    let h : eqb (commitmentAt (a .book) (a .h) (a .k) .0) 0 ≡ true = ap (λ (x : HubKwh). eqb (x .0) 0) (sym (c .before .before .commitment-at .ensures)) ∙ (sym (c .before .equals .ensures) ∙ c .if1 .taken) in
+    simp h (sym (written-none _))
 
 slice-aggregate-put-bytes : tie.Need-slice-aggregate-put-bytes
 slice-aggregate-put-bytes c = search needs
@@ -60,8 +65,8 @@ returns-2 c =
     let o2 = output (c .before .before .before .before .before .before .before .before .before .before .before .before .before .before .put-field .last .0) (c .before .before .before .before .before .before .before .before .before .before .before .before .before .before .put-field .result) in
     let o3 = output (c .before .before .before .before .before .before .before .before .before .before .put-field2 .last .0) (c .before .before .before .before .before .before .before .before .before .before .put-field2 .result) in
     let o4 = output (c .before .before .before .before .before .before .put-field3 .last .0) (c .before .before .before .before .before .before .put-field3 .result) in
-    let h : commitmentAt (g .book) (g .h) (g .k) .0 ≡ 0 → ⊥ = λ z. c .before .before .before .before .before .before .before .before .before .before .before .before .before .before .before .before .before .before .before .before .before .if1 .left (ap (λ (x : HubKwh). x .0) (c .before .before .before .before .before .before .before .before .before .before .before .before .before .before .before .before .before .before .before .before .before .before .before .commitment-at .ensures) ∙ z) in
-    simp (ne-eqb _ _ h)
+    let h : eqb (commitmentAt (g .book) (g .h) (g .k) .0) 0 ≡ false = ap (λ (x : HubKwh). eqb (x .0) 0) (sym (c .before .before .before .before .before .before .before .before .before .before .before .before .before .before .before .before .before .before .before .before .before .before .before .commitment-at .ensures)) ∙ (sym (c .before .before .before .before .before .before .before .before .before .before .before .before .before .before .before .before .before .before .before .before .before .before .equals .ensures) ∙ c .before .before .before .before .before .before .before .before .before .before .before .before .before .before .before .before .before .before .before .before .before .if1 .left) in
+    simp h
     (then o o1 (bytes "commitment") (field (g .h + 1) ++ (field (g .k + 1) ++ (field (commitmentAt (g .book) (g .h) (g .k) .0) ++ ((10 ∷ []))))) (c .before .before .before .before .before .before .before .before .before .before .before .before .before .before .before .before .before .before .put-bytes .ensures)
     (then o1 o2 (field (g .h + 1)) (field (g .k + 1) ++ (field (commitmentAt (g .book) (g .h) (g .k) .0) ++ ((10 ∷ [])))) (c .before .before .before .before .before .before .before .before .before .before .before .before .before .before .put-field .ensures)
     (then o2 o3 (field (g .k + 1)) (field (commitmentAt (g .book) (g .h) (g .k) .0) ++ ((10 ∷ []))) (c .before .before .before .before .before .before .before .before .before .before .put-field2 .ensures)
@@ -73,6 +78,7 @@ put-commitment-spec =
     tie.close
     (tie.spec
     commitment-at-requires
+    equals-requires
     returns
     slice-aggregate-put-bytes
     put-bytes-requires
