@@ -116,12 +116,12 @@ fn split_example(number: u64, test: NetKwh, deviation: NetKwh, spans: usize, spa
     };
     let d = settlement::split(100, u);
     say_number(number);
-    say_next(d.kwh[0]);
-    say_next(d.kwh[1]);
-    say_next(d.kwh[2]);
-    say_next(d.kwh[3]);
-    say_next(d.kwh[4]);
-    say_next(d.kwh[5]);
+    say_next(d.kwh[0].0);
+    say_next(d.kwh[1].0);
+    say_next(d.kwh[2].0);
+    say_next(d.kwh[3].0);
+    say_next(d.kwh[4].0);
+    say_next(d.kwh[5].0);
     say(b"\n");
 }
 
@@ -158,9 +158,9 @@ fn example_18() {
 fn example_21() {
     let declared = energy::net_of(GrossKwh(150000), 300);
     let gate = energy::gate_of(HubKwh(150000), 100);
-    let unsold = formulas::above(declared.0, gate.0);
+    let unsold = declared.above(gate);
     say(b"21 ");
-    say_number(unsold);
+    say_number(unsold.0);
     say(b"\n");
 }
 
@@ -171,7 +171,7 @@ fn test_example(number: u64, d: Deviations, reading: NetKwh, since: u64, cpf: u6
     let q = formulas::counted_deviation(d, 0);
     say_number(number);
     say(b" ");
-    if q.0 <= 1000000 && formulas::is_charged(q, true, reading, HubGrains(0), 0) {
+    if formulas::is_charged(q, true, reading, HubGrains(0), 0) {
         let w = formulas::weighted(d, 0);
         say_number(formulas::charge_of(w, since, cpf, 185000));
     } else {
@@ -213,7 +213,7 @@ fn four_steps() -> Offer
 fn energy_example(number: u64, energy: HubGrains)
     requires { ⌜ energy .0 ≤ 100000000000 ⌝ }
 {
-    let cost = offer::cost_between(four_steps(), HubKwh(0), 0, energy.0);
+    let cost = offer::cost_between(four_steps(), HubKwh(0), HubGrains(0), energy);
     say_number(number);
     say_next(formulas::energy_pay(cost));
     say(b"\n");
@@ -232,7 +232,14 @@ fn main() {
         23,
         NetKwh(90000),
         Deviations {
-            kwh: [0, 0, 0, 10000, 0, 0],
+            kwh: [
+                NetKwh(0),
+                NetKwh(0),
+                NetKwh(0),
+                NetKwh(10000),
+                NetKwh(0),
+                NetKwh(0),
+            ],
         },
         GrossKwh(120000),
     );
@@ -240,7 +247,14 @@ fn main() {
         24,
         NetKwh(70000),
         Deviations {
-            kwh: [0, 0, 0, 10000, 0, 0],
+            kwh: [
+                NetKwh(0),
+                NetKwh(0),
+                NetKwh(0),
+                NetKwh(10000),
+                NetKwh(0),
+                NetKwh(0),
+            ],
         },
         GrossKwh(120000),
     );
@@ -248,14 +262,28 @@ fn main() {
         25,
         NetKwh(90000),
         Deviations {
-            kwh: [0, 0, 0, 10000, 0, 0],
+            kwh: [
+                NetKwh(0),
+                NetKwh(0),
+                NetKwh(0),
+                NetKwh(10000),
+                NetKwh(0),
+                NetKwh(0),
+            ],
         },
         GrossKwh(80000),
     );
     test_example(
         26,
         Deviations {
-            kwh: [10000, 20000, 0, 0, 0, 0],
+            kwh: [
+                NetKwh(10000),
+                NetKwh(20000),
+                NetKwh(0),
+                NetKwh(0),
+                NetKwh(0),
+                NetKwh(0),
+            ],
         },
         NetKwh(80000),
         1,
@@ -264,7 +292,14 @@ fn main() {
     test_example(
         26,
         Deviations {
-            kwh: [10000, 20000, 0, 0, 0, 0],
+            kwh: [
+                NetKwh(10000),
+                NetKwh(20000),
+                NetKwh(0),
+                NetKwh(0),
+                NetKwh(0),
+                NetKwh(0),
+            ],
         },
         NetKwh(80000),
         2,
@@ -273,7 +308,14 @@ fn main() {
     test_example(
         27,
         Deviations {
-            kwh: [1800, 0, 0, 0, 0, 0],
+            kwh: [
+                NetKwh(1800),
+                NetKwh(0),
+                NetKwh(0),
+                NetKwh(0),
+                NetKwh(0),
+                NetKwh(0),
+            ],
         },
         NetKwh(80000),
         1,
@@ -282,7 +324,14 @@ fn main() {
     test_example(
         28,
         Deviations {
-            kwh: [0, 0, 0, 0, 40000, 0],
+            kwh: [
+                NetKwh(0),
+                NetKwh(0),
+                NetKwh(0),
+                NetKwh(0),
+                NetKwh(40000),
+                NetKwh(0),
+            ],
         },
         NetKwh(0),
         1,
@@ -291,7 +340,14 @@ fn main() {
     test_example(
         28,
         Deviations {
-            kwh: [0, 0, 0, 0, 40000, 0],
+            kwh: [
+                NetKwh(0),
+                NetKwh(0),
+                NetKwh(0),
+                NetKwh(0),
+                NetKwh(40000),
+                NetKwh(0),
+            ],
         },
         NetKwh(0),
         2,

@@ -120,7 +120,7 @@ fn energy_item(offer: Offer, commitment: HubKwh, energy: HubGrains) -> i64
     requires { ⌜ (offerHolds offer ≡ true) × (commitment .0 ≤ 1000000) × (energy .0 ≤ 80000000000) ⌝ }
     ensures { λ r. ⌜ r ≡ energyItem offer commitment energy ⌝ }
 {
-    let cost = offer::cost_between(offer, commitment, 0, energy.0);
+    let cost = offer::cost_between(offer, commitment, HubGrains(0), energy);
     formulas::paid(formulas::energy_pay(cost))
 }
 
