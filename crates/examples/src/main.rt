@@ -164,6 +164,23 @@ fn example_21() {
     say(b"\n");
 }
 
+// A deviation of kinds 2, 3, 5 and 6.
+fn of_kinds(d2: u64, d3: u64, d5: u64, d6: u64) -> Deviations
+    requires { ⌜ (d2 ≤ 100000) × (d3 ≤ 100000) × (d5 ≤ 100000) × (d6 ≤ 100000) ⌝ }
+    ensures { λ r. ⌜ Bounded r × (weighted r 0 ≤ 10000000) ⌝ }
+{
+    Deviations {
+        kwh: [
+            NetKwh(d2),
+            NetKwh(d3),
+            NetKwh(0),
+            NetKwh(d5),
+            NetKwh(d6),
+            NetKwh(0),
+        ],
+    }
+}
+
 // The charge of a deviation by a base availability rate of 185,000, 0 where it is free.
 fn test_example(number: u64, d: Deviations, reading: NetKwh, since: u64, cpf: u64)
     requires { ⌜ Bounded d × (weighted d 0 ≤ 10000000) × (cpf ≤ 10000) ⌝ }
@@ -231,128 +248,21 @@ fn main() {
     refund_example(
         23,
         NetKwh(90000),
-        Deviations {
-            kwh: [
-                NetKwh(0),
-                NetKwh(0),
-                NetKwh(0),
-                NetKwh(10000),
-                NetKwh(0),
-                NetKwh(0),
-            ],
-        },
+        of_kinds(0, 0, 10000, 0),
         GrossKwh(120000),
     );
     refund_example(
         24,
         NetKwh(70000),
-        Deviations {
-            kwh: [
-                NetKwh(0),
-                NetKwh(0),
-                NetKwh(0),
-                NetKwh(10000),
-                NetKwh(0),
-                NetKwh(0),
-            ],
-        },
+        of_kinds(0, 0, 10000, 0),
         GrossKwh(120000),
     );
-    refund_example(
-        25,
-        NetKwh(90000),
-        Deviations {
-            kwh: [
-                NetKwh(0),
-                NetKwh(0),
-                NetKwh(0),
-                NetKwh(10000),
-                NetKwh(0),
-                NetKwh(0),
-            ],
-        },
-        GrossKwh(80000),
-    );
-    test_example(
-        26,
-        Deviations {
-            kwh: [
-                NetKwh(10000),
-                NetKwh(20000),
-                NetKwh(0),
-                NetKwh(0),
-                NetKwh(0),
-                NetKwh(0),
-            ],
-        },
-        NetKwh(80000),
-        1,
-        2000,
-    );
-    test_example(
-        26,
-        Deviations {
-            kwh: [
-                NetKwh(10000),
-                NetKwh(20000),
-                NetKwh(0),
-                NetKwh(0),
-                NetKwh(0),
-                NetKwh(0),
-            ],
-        },
-        NetKwh(80000),
-        2,
-        1980,
-    );
-    test_example(
-        27,
-        Deviations {
-            kwh: [
-                NetKwh(1800),
-                NetKwh(0),
-                NetKwh(0),
-                NetKwh(0),
-                NetKwh(0),
-                NetKwh(0),
-            ],
-        },
-        NetKwh(80000),
-        1,
-        2000,
-    );
-    test_example(
-        28,
-        Deviations {
-            kwh: [
-                NetKwh(0),
-                NetKwh(0),
-                NetKwh(0),
-                NetKwh(0),
-                NetKwh(40000),
-                NetKwh(0),
-            ],
-        },
-        NetKwh(0),
-        1,
-        2000,
-    );
-    test_example(
-        28,
-        Deviations {
-            kwh: [
-                NetKwh(0),
-                NetKwh(0),
-                NetKwh(0),
-                NetKwh(0),
-                NetKwh(40000),
-                NetKwh(0),
-            ],
-        },
-        NetKwh(0),
-        2,
-        1980,
-    );
+    refund_example(25, NetKwh(90000), of_kinds(0, 0, 10000, 0), GrossKwh(80000));
+    test_example(26, of_kinds(10000, 20000, 0, 0), NetKwh(80000), 1, 2000);
+    test_example(26, of_kinds(10000, 20000, 0, 0), NetKwh(80000), 2, 1980);
+    test_example(27, of_kinds(1800, 0, 0, 0), NetKwh(80000), 1, 2000);
+    test_example(28, of_kinds(0, 0, 0, 40000), NetKwh(0), 1, 2000);
+    test_example(28, of_kinds(0, 0, 0, 40000), NetKwh(0), 2, 1980);
     energy_example(41, HubGrains(1200000000));
     energy_example(42, HubGrains(750000000));
     energy_example(44, HubGrains(1200000000));
