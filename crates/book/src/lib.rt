@@ -321,7 +321,6 @@ pub fn shift_of(
     held: HubKwh,
     last: HubKwh,
 ) -> Shift
-    requires { ⌜ (eqb (asked .kind) 2 ≡ true → source ≡ held) ⌝ }
     ensures { λ r. ⌜ r ≡ shiftOf holds units asked settled source held last ⌝ }
 {
     let kind = asked.kind;

@@ -2,12 +2,11 @@
 -- definition. A take, release or move leaves the list of places as it is.
 -- Assumes nothing.
 use mathlib.Core.Path.{_≡_, refl, sym, ap, ap₂, _∙_, subst}
-use mathlib.Core.Bool.{Bool, true, false, _&&_}
+use mathlib.Core.Bool.{Bool, true, _&&_}
 use mathlib.Core.List.{List}
 use Prim.Native.Nat.{ℕ, suc, _+_, _/_, _%_, _<_}
 use native.Mathlib.Numerals.{add-one}
 use native.Mathlib.Omega.{arith}
-use borrow.Author.Tests.{eqb-true, ne-eqb}
 use lib.Dec.{leb, eqb}
 use lib.ListN.{length, getD, set, take}
 use lib.Seq.{paste, paste-zero}
@@ -151,13 +150,6 @@ module _ (sheet : Sheet) (calls answers : List ℕ) (st : Stand) (commits : (leb
           },
           n .1,
         )
-
--- a release gives and gets at one place
-pub one-place : (l : List HubKwh) (x : Asked) (from t target : ℕ) → from ≡ entryPlace (x .hour) (x .unit) → t ≡ targetOf (x .kind) (x .unit) (x .to) → target ≡ entryPlace (x .hour) t
-    → eqb (x .kind) 2 ≡ true → getD l from noKwh ≡ getD l target noKwh
-one-place l x from t target f g h k =
-    let n3 : eqb (x .kind) 3 ≡ false = ne-eqb (x .kind) 3 (λ k3. let two = eqb-true (x .kind) 2 k in omega arith) in
-    ap (λ (n : ℕ). getD l n noKwh) (f ∙ (ap (entryPlace (x .hour)) (sym (g ∙ simp n3)) ∙ sym h))
 
 -- another call, decided without 12
 module _ (sheet : Sheet) (calls text : List ℕ) (journal : List Posting) (first answers : List ℕ) (st : Stand) (s : Stands sheet calls text journal first answers st) where

@@ -26,7 +26,6 @@ use Rattle.book.proofs.Hours.{known-few}
 use Rattle.book.proofs.Limits.{limits-are}
 use Rattle.book.proofs.Room.{units-of, known-sound, known-least}
 use Rattle.book.proofs.Well.{call-well}
-use Rattle.journal.proofs.Going.{one-place}
 use Rattle.account.specs.declared.Due.{Due}
 use Rattle.account.specs.declared.Day.{Day}
 use Rattle.account.specs.Day.{dueAt, dayWith, begun, ranOut}
@@ -188,7 +187,7 @@ array-copy-out-last :
 array-copy-out-last c = search needs
 
 shift-of-requires : tie.Need-shift-of-requires Inv-loop2 μ-loop2 Inv-loop3 μ-loop3 Inv-loop μ-loop
-shift-of-requires c κs = one-place (c .before .before .before .before .before .before .before .before .before .before .before .before .before .loop .book .commitment) (c .before .before .before .before .before .before .before .before .before .before .before .before .before .loop .due .asked) _ _ _ (c .before .before .before .before .before .before .entry-place .ensures .0) (c .before .before .before .before .before .target-of .ensures) (c .before .before .before .before .entry-place2 .ensures .0)
+shift-of-requires c κs = search needs
 
 mul-left : tie.Need-mul-left Inv-loop2 μ-loop2 Inv-loop3 μ-loop3 Inv-loop μ-loop
 mul-left c = search needs

@@ -30,7 +30,7 @@ use Rattle.book.proofs.Limits.{limits-are}
 use Rattle.book.proofs.Room.{units-of, known-sound, known-least}
 use Rattle.book.proofs.Well.{call-well}
 use Rattle.journal.specs.declared.Stand.{Stand}
-use Rattle.journal.proofs.Going.{committed-next, one-place}
+use Rattle.journal.proofs.Going.{committed-next}
 use Rattle.journal.proofs.Onward.{Onward, onward-none, onward-commit, onward-known, onward-refused, onward-posted, rows-few, gone, Behind, behind-none, behind-next}
 use borrow.Author.Needs.{needs}
 use Rattle.journal.proofs.go_on.Statement.{statement}
@@ -316,7 +316,7 @@ shift-of-requires :
     μ-loop4
     Inv-loop
     μ-loop
-shift-of-requires c κs = one-place (c .before .before .before .before .before .before .before .before .before .before .before .before .before .loop .book .commitment) (c .before .before .before .before .before .before .before .before .before .before .asked-at .result) _ _ _ (c .before .before .before .before .before .before .entry-place .ensures .0) (c .before .before .before .before .before .target-of .ensures) (c .before .before .before .before .entry-place2 .ensures .0)
+shift-of-requires c κs = search needs
 
 mul-left : tie.Need-mul-left Inv-loop2 μ-loop2 Inv-loop3 μ-loop3 Inv-loop4 μ-loop4 Inv-loop μ-loop
 mul-left c = search needs
