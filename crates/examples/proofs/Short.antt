@@ -4,11 +4,11 @@ use mathlib.Core.List.{[], _∷_}
 use Prim.Native.Nat.{ℕ, zero, suc, _≤_}
 use native.Mathlib.Omega.{arith}
 use lib.ListN.{getD}
-use Rattle.formulas.specs.Items.{noKwh}
+use Rattle.formulas.specs.Items.{noDeviation}
 use Rattle.examples.proofs.Ranges.{netKwh}
 
 pub short : (a b c d e f i : ℕ) → a ≤ 1000000000 → b ≤ 1000000000 → c ≤ 1000000000 → d ≤ 1000000000 → e ≤ 1000000000 → f ≤ 1000000000
-    → getD (netKwh a ∷ (netKwh b ∷ (netKwh c ∷ (netKwh d ∷ (netKwh e ∷ (netKwh f ∷ [])))))) i noKwh .0 ≤ 1000000000
+    → getD (netKwh a ∷ (netKwh b ∷ (netKwh c ∷ (netKwh d ∷ (netKwh e ∷ (netKwh f ∷ [])))))) i noDeviation .0 ≤ 1000000000
 short a b c d e f zero ha hb hc hd he hf = ha
 short a b c d e f (suc zero) ha hb hc hd he hf = hb
 short a b c d e f (suc (suc zero)) ha hb hc hd he hf = hc

@@ -11,7 +11,7 @@ use Rattle.energy.specs.declared.GrossKwh.{GrossKwh}
 use Rattle.energy.specs.declared.NetKwh.{NetKwh}
 use Rattle.energy.proofs.Laws.{pay-most}
 use Rattle.formulas.specs.declared.Deviations.{Deviations}
-use Rattle.formulas.specs.Items.{kinds, noKwh, deviationOf, energyPay, availability, declarationCeiling, refundKwh, refund, weighted, drawnPay}
+use Rattle.formulas.specs.Items.{kinds, noDeviation, deviationOf, energyPay, availability, declarationCeiling, refundKwh, refund, weighted, drawnPay}
 
 -- what counts of a deviation on a repair day is at most the deviation
 pub exempt-le : (repair kwh : ℕ) → (1 - repair) * kwh ≤ kwh
@@ -39,9 +39,9 @@ ceiling-most true power = omega arith
 ceiling-most false power = omega arith
 
 -- item 4: W is at most ten times the deviation
-module _ (d : Deviations) (most : ℕ) (split : sum kinds (λ i. getD (d .kwh) i noKwh .0) ≤ most) where
-  pub deviation-most : (i : ℕ) → i < kinds → getD (d .kwh) i noKwh .0 ≤ most
-  deviation-most i l = omega (arith, sum-has kinds i (λ i. getD (d .kwh) i noKwh .0) l)
+module _ (d : Deviations) (most : ℕ) (split : sum kinds (λ i. getD (d .kwh) i noDeviation .0) ≤ most) where
+  pub deviation-most : (i : ℕ) → i < kinds → getD (d .kwh) i noDeviation .0 ≤ most
+  deviation-most i l = omega (arith, sum-has kinds i (λ i. getD (d .kwh) i noDeviation .0) l)
 
   pub weighted-most : (repair : ℕ) → weighted d repair ≤ 10 * most
   unfolding weighted sum

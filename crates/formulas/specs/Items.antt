@@ -19,15 +19,15 @@ abbrev pub kinds : ℕ
 kinds = 6
 
 -- what an index past the end reads; d of a kind, in net kWh
-abbrev pub noKwh : NetKwh
-noKwh = record { 0 = 0 }
+abbrev pub noDeviation : NetKwh
+noDeviation = record { 0 = 0 }
 
 abbrev pub deviationOf : Deviations → ℕ → NetKwh
-deviationOf d kind = getD (d .kwh) (kind - firstKind) noKwh
+deviationOf d kind = getD (d .kwh) (kind - firstKind) noDeviation
 
 -- for the code: none is over 10^9
 abbrev pub Bounded : Deviations → Type 0
-Bounded d = (i : ℕ) → i < kinds → getD (d .kwh) i noKwh .0 ≤ 1000000000
+Bounded d = (i : ℕ) → i < kinds → getD (d .kwh) i noDeviation .0 ≤ 1000000000
 
 -- "Magnitudes are rounded down, items 3 to 5 then negated"
 abbrev pub paid : ℕ → ℤ

@@ -19,7 +19,7 @@ use Rattle.record.specs.Hour.{noSpan, noUnit}
 use Rattle.allocation.specs.Fill.{grainsAt}
 use Rattle.allocation.specs.Allocation.{ceilings}
 use Rattle.formulas.specs.declared.Deviations.{Deviations}
-use Rattle.formulas.specs.Items.{noKwh, inSeason, declarationCeiling, refund, countedDeviation, isCharged, weighted, chargeOf, drawnPay}
+use Rattle.formulas.specs.Items.{noDeviation, inSeason, declarationCeiling, refund, countedDeviation, isCharged, weighted, chargeOf, drawnPay}
 use Rattle.settlement.specs.declared.HourResult.{HourResult}
 use Rattle.settlement.specs.Hour.{pastAmounts, plantOf, hourResult}
 
@@ -127,10 +127,10 @@ fields hour result unit =
 
 -- deviations of kind 2, or of kind 7, alone
 abbrev pub onlyKind2 : ℕ → Deviations
-onlyKind2 n = record { kwh = record { 0 = n } ∷ replicate 5 noKwh }
+onlyKind2 n = record { kwh = record { 0 = n } ∷ replicate 5 noDeviation }
 
 abbrev pub onlyKind7 : ℕ → Deviations
-onlyKind7 n = record { kwh = noKwh ∷ (noKwh ∷ (noKwh ∷ (noKwh ∷ (noKwh ∷ (record { 0 = n } ∷ []))))) }
+onlyKind7 n = record { kwh = noDeviation ∷ (noDeviation ∷ (noDeviation ∷ (noDeviation ∷ (noDeviation ∷ (record { 0 = n } ∷ []))))) }
 
 -- a row of the table: what is given, then the figure
 pub data Figure : Type 0 where
