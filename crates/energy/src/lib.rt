@@ -143,7 +143,7 @@ impl NetKwh {
         NetKwh(factor * self.0)
     }
 
-    // Its product with a number that is no factor of an energy, as minutes or tenths: what a proportion or a charge goes by.
+    // Its product with minutes or with tenths, which is no energy: what a proportion or a charge goes by.
     pub fn weight(self, factor: u64) -> u64
         requires { ⌜ self .0 * factor < 2 ^ 64 ⌝ }
         ensures { λ r. ⌜ r ≡ self .0 * factor ⌝ }

@@ -1,7 +1,7 @@
 -- The marked figures of 01 (Program and marked figures) as the rows of a table, and what makes a row right.
 use mathlib.Core.Path.{_≡_}
 use mathlib.Core.Bool.{Bool, true, false, cond}
-use mathlib.Core.List.{List, [], _∷_}
+use mathlib.Core.List.{List, [], _∷_, _++_}
 use Prim.Native.Nat.{ℕ, _-_}
 use lib.IntN.{ℤ, pos}
 use lib.ListN.{getD, replicate}
@@ -130,7 +130,7 @@ abbrev pub onlyKind2 : ℕ → Deviations
 onlyKind2 n = record { kwh = record { 0 = n } ∷ replicate 5 noDeviation }
 
 abbrev pub onlyKind7 : ℕ → Deviations
-onlyKind7 n = record { kwh = noDeviation ∷ (noDeviation ∷ (noDeviation ∷ (noDeviation ∷ (noDeviation ∷ (record { 0 = n } ∷ []))))) }
+onlyKind7 n = record { kwh = replicate 5 noDeviation ++ (record { 0 = n } ∷ []) }
 
 -- a row of the table: what is given, then the figure
 pub data Figure : Type 0 where

@@ -30,10 +30,11 @@ proportion own u kind = sum (spanCount u) (λ i. countedAs own (u .test) kind (s
 unfoldable pub proportions : ℕ → UnitRecord → List ℕ
 proportions own u = tabulate kinds (λ j. proportion own u (firstKind + j))
 
--- "`deviation` is split into d2..d7 in proportion to [these sums], by largest remainder (deviation 0: all 0), lower kind first"
--- (crate apportion: 0 has shares of 0, and shares are numbers, here of net kWh)
+-- shares of net kWh, which are numbers (crate apportion), one for each kind
 abbrev pub deviationsBy : List ℕ → Deviations
 deviationsBy numbers = record { kwh = tabulate kinds (λ j. record { 0 = getD numbers j 0 }) }
 
+-- "`deviation` is split into d2..d7 in proportion to [these sums], by largest remainder (deviation 0: all 0), lower kind first"
+-- (crate apportion: 0 has shares of 0)
 unfoldable pub deviationsOf : ℕ → UnitRecord → Deviations
 deviationsOf own u = deviationsBy (shares (proportions own u) (u .deviation .0))
