@@ -11,11 +11,14 @@ use Rattle.energy.specs.declared.GrossKwh.{GrossKwh}
 use Rattle.energy.specs.declared.NetKwh.{NetKwh}
 use Rattle.energy.proofs.Laws.{pay-most}
 use Rattle.formulas.specs.declared.Deviations.{Deviations}
-use Rattle.formulas.specs.Items.{kinds, noDeviation, deviationOf, energyPay, availability, declarationCeiling, refundKwh, refund, weighted, drawnPay}
+use Rattle.formulas.specs.Items.{kinds, noDeviation, deviationOf, Bounded, energyPay, availability, declarationCeiling, refundKwh, refund, weighted, drawnPay}
 
 -- what counts of a deviation on a repair day is at most the deviation
 pub exempt-le : (repair kwh : ℕ) → (1 - repair) * kwh ≤ kwh
 exempt-le repair kwh = let h : 1 - repair ≤ 1 = omega arith in omega (arith, mul-le-mul-right kwh h)
+
+pub exempt-most : (d : Deviations) (repair : ℕ) → Bounded d → (1 - repair) * deviationOf d 6 .0 ≤ 1000000000
+exempt-most d repair most = omega (arith, exempt-le repair (deviationOf d 6 .0), most 4 (omega arith))
 
 -- item 1: 10^7 a grain are a Rial a grain
 pub energy-pay-most : (cost n : ℕ) → cost ≤ n * 10000000 → energyPay cost ≤ n

@@ -117,12 +117,12 @@ pub fn refund(
     energy::pay_of(refund_kwh(declared, real, d, allowed), cpf, bar)
 }
 
-// What counts of a repair day's deviation: nothing.
-fn unless_repair(repair: u64, kwh: NetKwh) -> NetKwh
-    ensures { λ r. ⌜ r .0 ≡ (1 - repair) * kwh .0 ⌝ }
+// What counts of kind 6: nothing on a repair day.
+fn counted_of_6(d: Deviations, repair: u64) -> NetKwh
+    ensures { λ r. ⌜ r .0 ≡ (1 - repair) * deviationOf d 6 .0 ⌝ }
 {
     if repair == 0 {
-        return kwh;
+        return of_kind(d, 6);
     }
     NetKwh(0)
 }
@@ -133,7 +133,7 @@ pub fn counted_deviation(d: Deviations, repair: u64) -> NetKwh
     ensures { λ r. ⌜ r ≡ countedDeviation d repair ⌝ }
 {
     let tested = of_kind(d, 2).plus(of_kind(d, 3));
-    tested.plus(unless_repair(repair, of_kind(d, 6)))
+    tested.plus(counted_of_6(d, repair))
 }
 
 // Whether the counted deviation is charged: over 2,000 kWh, or twenty times it over the reading; of an unmeasured unit, twenty times it
@@ -158,7 +158,7 @@ pub fn weighted(d: Deviations, repair: u64) -> u64
     ensures { λ r. ⌜ r ≡ «the_weighted» d repair ⌝ }
 {
     let tested = of_kind(d, 2).weight(10) + of_kind(d, 3).weight(5);
-    tested + unless_repair(repair, of_kind(d, 6)).weight(10)
+    tested + counted_of_6(d, repair).weight(10)
 }
 
 // The charge of the first hour, b.
