@@ -4,3 +4,4 @@ pub mod Good
 pub mod Parts
 pub mod Always
 pub mod Bounds
+pub mod SpanBounds

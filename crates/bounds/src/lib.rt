@@ -1,1 +1,1 @@
-// The bounds of refusals 9 and 12 as a table of rows with one law over all of them. No code.
+// The bounds of refusals 9 and 12, and those of a span, as tables of rows with one law over each. No code.

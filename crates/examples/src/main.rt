@@ -1,5 +1,5 @@
 // Runs worked examples of the sources (000 and 001) that the scope document reproduces, and prints a line for each: the example's
-// number, then its figures.
+// number, then its figures. The sources have no example of kind 8; those of it here were worked out by hand.
 use allocation::Plant;
 use energy::GrossKwh;
 use energy::HubGrains;
@@ -96,8 +96,8 @@ fn example_13(month: u64, day: u64) {
     say(b"\n");
 }
 
-// The split of the deviation of a unit with an own use of 1 per cent, by its test criterion and its spans: d2 to d7.
-fn split_example(number: u64, test: NetKwh, deviation: NetKwh, spans: usize, span: [Span; 6])
+// The split of the deviation of a unit with an own use of 1 per cent, by its test criterion and its spans: d2 to d8.
+fn split_example(name: &[u8], test: NetKwh, deviation: NetKwh, spans: usize, span: [Span; 6])
     requires { ⌜ (test .0 ≤ 1000000) × (deviation .0 ≤ 1000000) × (1 ≤ spans) × (spans ≤ 6) ⌝ }
     requires { ⌜ ((i : ℕ) → i < spans → SpanInRange (getD span i noSpan)) ⌝ }
 {
@@ -115,18 +115,19 @@ fn split_example(number: u64, test: NetKwh, deviation: NetKwh, spans: usize, spa
         span: span,
     };
     let d = settlement::split(100, u);
-    say_number(number);
+    say(name);
     say_next(d.kwh[0].0);
     say_next(d.kwh[1].0);
     say_next(d.kwh[2].0);
     say_next(d.kwh[3].0);
     say_next(d.kwh[4].0);
     say_next(d.kwh[5].0);
+    say_next(d.kwh[6].0);
     say(b"\n");
 }
 
 fn span_of(minutes: u64, kind: u64, cause: u64, capability: GrossKwh) -> Span
-    requires { ⌜ (1 ≤ minutes) × (minutes ≤ 60) × (1 ≤ kind) × (kind ≤ 7) × (cause ≤ 2) × (capability .0 ≤ 1000000) ⌝ }
+    requires { ⌜ (1 ≤ minutes) × (minutes ≤ 60) × (1 ≤ kind) × (kind ≤ 8) × (cause ≤ 2) × (capability .0 ≤ 1000000) ⌝ }
     ensures { λ r. ⌜ SpanInRange r ⌝ }
 {
     Span {
@@ -137,21 +138,51 @@ fn span_of(minutes: u64, kind: u64, cause: u64, capability: GrossKwh) -> Span
     }
 }
 
+fn two_spans(first: Span, second: Span) -> [Span; 6]
+    requires { ⌜ SpanInRange first × SpanInRange second ⌝ }
+    ensures { λ r. ⌜ ((i : ℕ) → i < 2 → SpanInRange (getD r i noSpan)) ⌝ }
+{
+    let mut span = [record::no_span(); 6];
+    span[0] = first;
+    span[1] = second;
+    span
+}
+
+fn three_spans(first: Span, second: Span, third: Span) -> [Span; 6]
+    requires { ⌜ SpanInRange first × SpanInRange second × SpanInRange third ⌝ }
+    ensures { λ r. ⌜ ((i : ℕ) → i < 3 → SpanInRange (getD r i noSpan)) ⌝ }
+{
+    let mut span = [record::no_span(); 6];
+    span[0] = first;
+    span[1] = second;
+    span[2] = third;
+    span
+}
+
 // Kinds 2 and 3.
 fn example_16() {
-    let mut span = [record::no_span(); 6];
-    span[0] = span_of(20, 1, 0, GrossKwh(135000));
-    span[1] = span_of(30, 2, 0, GrossKwh(110000));
-    span[2] = span_of(10, 3, 0, GrossKwh(105000));
-    split_example(16, NetKwh(135000), NetKwh(17500), 3, span);
+    let first = span_of(20, 1, 0, GrossKwh(135000));
+    let second = span_of(30, 2, 0, GrossKwh(110000));
+    let third = span_of(10, 3, 0, GrossKwh(105000));
+    let spans = three_spans(first, second, third);
+    split_example(b"16", NetKwh(135000), NetKwh(17500), 3, spans);
 }
 
 // Kind 2, once of environmental cause.
 fn example_18() {
-    let mut span = [record::no_span(); 6];
-    span[0] = span_of(40, 2, 0, GrossKwh(40000));
-    span[1] = span_of(20, 2, 1, GrossKwh(20000));
-    split_example(18, NetKwh(80000), NetKwh(46000), 2, span);
+    let first = span_of(40, 2, 0, GrossKwh(40000));
+    let second = span_of(20, 2, 1, GrossKwh(20000));
+    let spans = two_spans(first, second);
+    split_example(b"18", NetKwh(80000), NetKwh(46000), 2, spans);
+}
+
+// Kinds 7 and 8 in equal proportions: the odd kWh is kind 7's. The causes leave kind 8 as it is.
+fn kind_8_split() {
+    let first = span_of(30, 7, 0, GrossKwh(40000));
+    let second = span_of(15, 8, 1, GrossKwh(40000));
+    let third = span_of(15, 8, 2, GrossKwh(40000));
+    let spans = three_spans(first, second, third);
+    split_example(b"kind 8", NetKwh(80000), NetKwh(10001), 3, spans);
 }
 
 // The commitment of 150,000 hub kWh leaves nothing of the declared 150,000.
@@ -164,10 +195,10 @@ fn example_21() {
     say(b"\n");
 }
 
-// A deviation of kinds 2, 3, 5 and 6.
-fn of_kinds(d2: u64, d3: u64, d5: u64, d6: u64) -> Deviations
-    requires { ⌜ (d2 ≤ 100000) × (d3 ≤ 100000) × (d5 ≤ 100000) × (d6 ≤ 100000) ⌝ }
-    ensures { λ r. ⌜ Bounded r × (weighted r 0 ≤ 10000000) ⌝ }
+// A deviation of kinds 2, 3, 5, 6 and 8.
+fn of_kinds(d2: u64, d3: u64, d5: u64, d6: u64, d8: u64) -> Deviations
+    requires { ⌜ (d2 ≤ 100000) × (d3 ≤ 100000) × (d5 ≤ 100000) × (d6 ≤ 100000) × (d8 ≤ 100000) ⌝ }
+    ensures { λ r. ⌜ Bounded r × (weighted r 0 ≤ 10000000) × (weighted r 1 ≤ 10000000) ⌝ }
 {
     Deviations {
         kwh: [
@@ -177,19 +208,28 @@ fn of_kinds(d2: u64, d3: u64, d5: u64, d6: u64) -> Deviations
             NetKwh(d5),
             NetKwh(d6),
             NetKwh(0),
+            NetKwh(d8),
         ],
     }
 }
 
-// The charge of a deviation by a base availability rate of 185,000, 0 where it is free.
-fn test_example(number: u64, d: Deviations, reading: NetKwh, since: u64, cpf: u64)
-    requires { ⌜ Bounded d × (weighted d 0 ≤ 10000000) × (cpf ≤ 10000) ⌝ }
+// A deviation of kind 8 alone.
+fn of_kind_8(d8: u64) -> Deviations
+    requires { ⌜ d8 ≤ 100000 ⌝ }
+    ensures { λ r. ⌜ Bounded r × (weighted r 0 ≤ 10000000) × (weighted r 1 ≤ 10000000) ⌝ }
 {
-    let q = formulas::counted_deviation(d, 0);
-    say_number(number);
+    of_kinds(0, 0, 0, 0, d8)
+}
+
+// The charge of a deviation by a base availability rate of 185,000, 0 where it is free.
+fn test_example(name: &[u8], d: Deviations, repair: u64, reading: NetKwh, since: u64, cpf: u64)
+    requires { ⌜ Bounded d × (weighted d repair ≤ 10000000) × (cpf ≤ 10000) ⌝ }
+{
+    let q = formulas::counted_deviation(d, repair);
+    say(name);
     say(b" ");
     if formulas::is_charged(q, true, reading, HubGrains(0), 0) {
-        let w = formulas::weighted(d, 0);
+        let w = formulas::weighted(d, repair);
         say_number(formulas::charge_of(w, since, cpf, 185000));
     } else {
         say_number(0);
@@ -198,13 +238,13 @@ fn test_example(number: u64, d: Deviations, reading: NetKwh, since: u64, cpf: u6
 }
 
 // The refund of a unit that declared 98,000 net, with an own use of 2 per cent, by A: how much energy, and the amount.
-fn refund_example(number: u64, real: NetKwh, d: Deviations, a: GrossKwh)
+fn refund_example(name: &[u8], real: NetKwh, d: Deviations, a: GrossKwh)
     requires { ⌜ (real .0 ≤ 1000000) × Bounded d × (a .0 ≤ 1000000) ⌝ }
 {
     let declared = NetKwh(98000);
     let allowed = energy::net_of(a, 200);
     let short = formulas::refund_kwh(declared, real, d, allowed);
-    say_number(number);
+    say(name);
     say_next(short.0);
     say_next(formulas::refund(declared, real, d, allowed, 1500, 185000));
     say(b"\n");
@@ -236,6 +276,31 @@ fn energy_example(number: u64, energy: HubGrains)
     say(b"\n");
 }
 
+fn refund_examples() {
+    let d5 = of_kinds(0, 0, 10000, 0, 0);
+    refund_example(b"23", NetKwh(90000), d5, GrossKwh(120000));
+    refund_example(b"24", NetKwh(70000), d5, GrossKwh(120000));
+    refund_example(b"25", NetKwh(90000), d5, GrossKwh(80000));
+    refund_example(b"kind 8", NetKwh(70000), of_kind_8(10000), GrossKwh(120000));
+}
+
+// Of kind 8, W is three times the deviation: 2,000 kWh are free and one more is charged, on a repair day too; and so are 2,000 kWh where twenty
+// times them is the reading, and where it is one over it.
+fn test_examples() {
+    let d2_d3 = of_kinds(10000, 20000, 0, 0, 0);
+    test_example(b"26", d2_d3, 0, NetKwh(80000), 1, 2000);
+    test_example(b"26", d2_d3, 0, NetKwh(80000), 2, 1980);
+    test_example(b"27", of_kinds(1800, 0, 0, 0, 0), 0, NetKwh(80000), 1, 2000);
+    let d6 = of_kinds(0, 0, 0, 40000, 0);
+    test_example(b"28", d6, 0, NetKwh(0), 1, 2000);
+    test_example(b"28", d6, 0, NetKwh(0), 2, 1980);
+    test_example(b"kind 8", of_kind_8(2000), 0, NetKwh(60000), 1, 2000);
+    test_example(b"kind 8", of_kind_8(2001), 0, NetKwh(60000), 1, 2000);
+    test_example(b"kind 8", of_kind_8(2001), 1, NetKwh(60000), 2, 2000);
+    test_example(b"kind 8", of_kind_8(2000), 0, NetKwh(40000), 1, 2000);
+    test_example(b"kind 8", of_kind_8(2000), 0, NetKwh(39999), 1, 2000);
+}
+
 fn main() {
     example_12();
     example_13(3, 15);
@@ -244,25 +309,10 @@ fn main() {
     example_13(6, 16);
     example_16();
     example_18();
+    kind_8_split();
     example_21();
-    refund_example(
-        23,
-        NetKwh(90000),
-        of_kinds(0, 0, 10000, 0),
-        GrossKwh(120000),
-    );
-    refund_example(
-        24,
-        NetKwh(70000),
-        of_kinds(0, 0, 10000, 0),
-        GrossKwh(120000),
-    );
-    refund_example(25, NetKwh(90000), of_kinds(0, 0, 10000, 0), GrossKwh(80000));
-    test_example(26, of_kinds(10000, 20000, 0, 0), NetKwh(80000), 1, 2000);
-    test_example(26, of_kinds(10000, 20000, 0, 0), NetKwh(80000), 2, 1980);
-    test_example(27, of_kinds(1800, 0, 0, 0), NetKwh(80000), 1, 2000);
-    test_example(28, of_kinds(0, 0, 0, 40000), NetKwh(0), 1, 2000);
-    test_example(28, of_kinds(0, 0, 0, 40000), NetKwh(0), 2, 1980);
+    refund_examples();
+    test_examples();
     energy_example(41, HubGrains(1200000000));
     energy_example(42, HubGrains(750000000));
     energy_example(44, HubGrains(1200000000));

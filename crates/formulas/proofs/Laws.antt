@@ -2,23 +2,17 @@
 -- Assumes nothing.
 use mathlib.Core.Bool.{Bool, true, false}
 use Prim.Native.Nat.{ℕ, _+_, _*_, _-_, _≤_, _<_}
-use native.Mathlib.Nat.{mul-le-mul, mul-le-mul-right}
+use native.Mathlib.Nat.{mul-le-mul}
 use native.Mathlib.Omega.{arith}
 use lib.ListN.{getD}
 use Rattle.finite.specs.Finite.{sum}
-use Rattle.finite.proofs.Sums.{sum-has}
+use Rattle.finite.proofs.Sums.{sum-le, sum-mul, sum-has}
 use Rattle.energy.specs.declared.GrossKwh.{GrossKwh}
 use Rattle.energy.specs.declared.NetKwh.{NetKwh}
 use Rattle.energy.proofs.Laws.{pay-most}
 use Rattle.formulas.specs.declared.Deviations.{Deviations}
-use Rattle.formulas.specs.Items.{kinds, noDeviation, deviationOf, Bounded, energyPay, availability, declarationCeiling, refundKwh, refund, weighted, drawnPay}
-
--- what counts of a deviation on a repair day is at most the deviation
-pub exempt-le : (repair kwh : ℕ) → (1 - repair) * kwh ≤ kwh
-exempt-le repair kwh = let h : 1 - repair ≤ 1 = omega arith in omega (arith, mul-le-mul-right kwh h)
-
-pub exempt-most : (d : Deviations) (repair : ℕ) → Bounded d → (1 - repair) * deviationOf d 6 .0 ≤ 1000000000
-exempt-most d repair most = omega (arith, exempt-le repair (deviationOf d 6 .0), most 4 (omega arith))
+use Rattle.formulas.specs.Items.{kinds, noDeviation, deviationAt, energyPay, availability, declarationCeiling, refundKwh, refund, weightedPart, weighted, drawnPay}
+use Rattle.formulas.proofs.Weights.{part-most}
 
 -- item 1: 10^7 a grain are a Rial a grain
 pub energy-pay-most : (cost n : ℕ) → cost ≤ n * 10000000 → energyPay cost ≤ n
@@ -41,14 +35,16 @@ unfolding declarationCeiling
 ceiling-most true power = omega arith
 ceiling-most false power = omega arith
 
--- item 4: W is at most ten times the deviation
+-- item 4: the deviation of each kind, and W, which is at most ten times the deviation
 module _ (d : Deviations) (most : ℕ) (split : sum kinds (λ i. getD (d .kwh) i noDeviation .0) ≤ most) where
   pub deviation-most : (i : ℕ) → i < kinds → getD (d .kwh) i noDeviation .0 ≤ most
   deviation-most i l = omega (arith, sum-has kinds i (λ i. getD (d .kwh) i noDeviation .0) l)
 
   pub weighted-most : (repair : ℕ) → weighted d repair ≤ 10 * most
-  unfolding weighted sum
-  weighted-most repair = omega (arith, exempt-le repair (deviationOf d 6 .0))
+  unfolding weighted
+  weighted-most repair =
+      let ten : ℕ → ℕ = λ j. 10 * deviationAt d j .0 in
+      omega (arith, sum-le kinds (weightedPart d repair) ten (part-most d repair), sum-mul kinds 10 (λ j. deviationAt d j .0))
 
 -- item 5: at most 8 × 10^10
 pub drawn-most : (reverse net : NetKwh) (ceiling loss : ℕ) → reverse .0 ≤ 8000000 → ceiling ≤ 10000000 → drawnPay reverse net ceiling loss ≤ 80000000000

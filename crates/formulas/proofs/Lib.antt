@@ -1,3 +1,4 @@
 pub mod Amounts
 pub mod Charge
 pub mod Laws
+pub mod Weights

@@ -1,33 +1,60 @@
 -- The arithmetic of a unit's five items, in Rial: 01, Five items, sentence by sentence. V(k) and net(P) are of crate energy.
 -- The differences of natural numbers below stop at 0, as 01's max(.., 0) says.
 use Prim.Native.Nat.{ℕ, _+_, _*_, _-_, _/_, _^_, _≤_, _<_, min, max}
-use mathlib.Core.Bool.{Bool, cond, _&&_, _||_}
+use mathlib.Core.Bool.{Bool, true, false, cond, _&&_, _||_}
+use mathlib.Core.List.{List, [], _∷_}
 use lib.Dec.{ltb, leb, eqb}
 use lib.IntN.{ℤ, pos, negℤ}
 use lib.ListN.{getD}
+use Rattle.finite.specs.Finite.{sum}
 use Rattle.energy.specs.declared.GrossKwh.{GrossKwh}
 use Rattle.energy.specs.declared.NetKwh.{NetKwh}
 use Rattle.energy.specs.declared.HubGrains.{HubGrains}
 use Rattle.energy.specs.Energy.{payOf}
 use Rattle.formulas.specs.declared.Deviations.{Deviations}
+use Rattle.formulas.specs.declared.KindWeight.{KindWeight}
 
--- "`deviation` is split into d2..d7": the first kind, and how many there are
+-- "`deviation` is split into d2..d7", and 02, wish 1: "d8 joins the split of the deviation": the first kind, and how many there are
 abbrev pub firstKind : ℕ
 firstKind = 2
 
 abbrev pub kinds : ℕ
-kinds = 6
+kinds = 7
 
--- what an index past the end reads; d of a kind, in net kWh
+-- what an index past the end reads; the deviation at an index, the first kind's at 0, and that of a kind, in net kWh
 abbrev pub noDeviation : NetKwh
 noDeviation = record { 0 = 0 }
 
+abbrev pub deviationAt : Deviations → ℕ → NetKwh
+deviationAt d j = getD (d .kwh) j noDeviation
+
 abbrev pub deviationOf : Deviations → ℕ → NetKwh
-deviationOf d kind = getD (d .kwh) (kind - firstKind) noDeviation
+deviationOf d kind = deviationAt d (kind - firstKind)
 
 -- for the code: none is over 10^9
 abbrev pub Bounded : Deviations → Type 0
-Bounded d = (i : ℕ) → i < kinds → getD (d .kwh) i noDeviation .0 ≤ 1000000000
+Bounded d = (j : ℕ) → j < kinds → deviationAt d j .0 ≤ 1000000000
+
+-- How each kind is charged, from kind 2 on: "W = 10 d2 + 5 d3 + 10 (1 − repair) d6", and 02, wish 1: "W gains 3 × d8". A kind is a row:
+-- the tenths of its deviation that W takes, and whether `repair` exempts it. `counted-is` and `weighted-is` (proofs/Laws.antt) say that
+-- q and W are the documents' sums.
+unfoldable pub kindWeights : List KindWeight
+kindWeights =
+    record { tenths = 10; exempt = false }
+    ∷ record { tenths = 5; exempt = false }
+    ∷ record { tenths = 0; exempt = false }
+    ∷ record { tenths = 0; exempt = false }
+    ∷ record { tenths = 10; exempt = true }
+    ∷ record { tenths = 0; exempt = false }
+    ∷ record { tenths = 3; exempt = false }
+    ∷ []
+
+unfoldable pub kindWeight : ℕ → KindWeight
+kindWeight j = getD kindWeights j (record { tenths = 0; exempt = false })
+
+-- "(1 − repair) × d6": what counts of a deviation whose kind `repair` exempts; of the others, all
+unfoldable pub countedAt : Deviations → ℕ → ℕ → ℕ
+countedAt d repair j = cond (kindWeight j .exempt) ((1 - repair) * deviationAt d j .0) (deviationAt d j .0)
 
 -- "Magnitudes are rounded down, items 3 to 5 then negated"
 abbrev pub paid : ℕ → ℤ
@@ -71,9 +98,12 @@ refundKwh declared real d allowed = record { 0 = max (capabilityShort declared r
 unfoldable pub refund : NetKwh → NetKwh → Deviations → NetKwh → ℕ → ℕ → ℕ
 refund declared real d allowed cpf bar = payOf (refundKwh declared real d allowed) cpf bar
 
--- "4. Test: .. q = d2 + d3 + (1 − repair) × d6"
+-- "4. Test: .. q = d2 + d3 + (1 − repair) × d6", and 02, wish 1: "q gains d8": what counts of the kinds that have a weight
+abbrev pub countedPart : Deviations → ℕ → ℕ → ℕ
+countedPart d repair j = cond (eqb (kindWeight j .tenths) 0) 0 (countedAt d repair j)
+
 unfoldable pub countedDeviation : Deviations → ℕ → NetKwh
-countedDeviation d repair = record { 0 = deviationOf d 2 .0 + deviationOf d 3 .0 + (1 - repair) * deviationOf d 6 .0 }
+countedDeviation d repair = record { 0 = sum kinds (countedPart d repair) }
 
 -- "Charged exactly if q > 2,000 or 20 × q > reading (unmeasured: the unit's hub energy over 10,000 − L, compared exactly)":
 -- the energy over 10,000 − L is below 20 × q exactly where the energy is below 20 × q × (10,000 − L)
@@ -81,9 +111,12 @@ unfoldable pub isCharged : NetKwh → Bool → NetKwh → HubGrains → ℕ → 
 isCharged q measured reading energy loss =
     ltb 2000 (q .0) || cond measured (ltb (reading .0) (20 * q .0)) (ltb (energy .0) (20 * q .0 * (10000 - loss)))
 
--- "W = 10 d2 + 5 d3 + 10 (1 − repair) d6"
+-- W: what counts of each kind, times its weight
+abbrev pub weightedPart : Deviations → ℕ → ℕ → ℕ
+weightedPart d repair j = countedAt d repair j * kindWeight j .tenths
+
 unfoldable pub weighted : Deviations → ℕ → ℕ
-weighted d repair = 10 * deviationOf d 2 .0 + 5 * deviationOf d 3 .0 + 10 * ((1 - repair) * deviationOf d 6 .0)
+weighted d repair = sum kinds (weightedPart d repair)
 
 -- "b = W × 125 × cpf × bar / 10^9 down"
 unfoldable pub baseCharge : ℕ → ℕ → ℕ → ℕ

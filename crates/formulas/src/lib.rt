@@ -1,17 +1,69 @@
 // The arithmetic of a unit's five items, in Rial: the season, the ceiling of a declaration, each item's magnitude, and its sign.
 ghost use mathlib.Core.Path.{_≡_};
 ghost use Prim.Native.Nat.{_+_, _*_, _-_, _^_, _≤_, _<_, min};
-ghost use Rattle.formulas.specs.Items.{firstKind, kinds, deviationOf, Bounded, inOrder, inSeason, declarationCeiling, energyPay, availability, refundKwh, refund as «the_refund», countedDeviation, isCharged, weighted as «the_weighted», baseCharge, growth as «the_growth», hoursCounted, chargeOf, NearExact, drawnPay, paid as «the_paid», owed as «the_owed»};
+ghost use Rattle.formulas.specs.Items.{firstKind, kinds, deviationAt, deviationOf, Bounded, kindWeight, countedAt, countedPart, inOrder, inSeason, declarationCeiling, energyPay, availability, refundKwh, refund as «the_refund», countedDeviation, isCharged, weighted as «the_weighted», baseCharge, growth as «the_growth», hoursCounted, chargeOf, NearExact, drawnPay, paid as «the_paid», owed as «the_owed»};
 use energy::GrossKwh;
 use energy::HubGrains;
 use energy::NetKwh;
 
-// The number of kinds that a deviation is split into: 2 to 7.
-pub const KINDS: usize = 6;
+// The number of kinds that a deviation is split into: 2 to 8.
+pub const KINDS: usize = 7;
 
 // A unit's deviation by kind, from kind 2 on, in net kWh at the gate.
 pub struct Deviations {
     pub kwh: [NetKwh; KINDS],
+}
+
+// How a kind is charged: the tenths of its deviation that W takes, 0 where it is not charged, and whether `repair` exempts it.
+pub struct KindWeight {
+    pub tenths: u64,
+    pub exempt: bool,
+}
+
+// A row for each kind, 2 to 8.
+const KIND_WEIGHTS: [KindWeight; KINDS] = [
+    // kind 2
+    KindWeight {
+        tenths: 10,
+        exempt: false,
+    },
+    // kind 3
+    KindWeight {
+        tenths: 5,
+        exempt: false,
+    },
+    // kind 4
+    KindWeight {
+        tenths: 0,
+        exempt: false,
+    },
+    // kind 5
+    KindWeight {
+        tenths: 0,
+        exempt: false,
+    },
+    // kind 6
+    KindWeight {
+        tenths: 10,
+        exempt: true,
+    },
+    // kind 7
+    KindWeight {
+        tenths: 0,
+        exempt: false,
+    },
+    // kind 8
+    KindWeight {
+        tenths: 3,
+        exempt: false,
+    },
+];
+
+fn kind_weight(j: usize) -> KindWeight
+    requires { ⌜ j < kinds ⌝ }
+    ensures { λ r. ⌜ r ≡ kindWeight j ⌝ }
+{
+    KIND_WEIGHTS[j]
 }
 
 // The deviation of a kind.
@@ -117,14 +169,29 @@ pub fn refund(
     energy::pay_of(refund_kwh(declared, real, d, allowed), cpf, bar)
 }
 
-// What counts of kind 6: nothing on a repair day.
-fn counted_of_6(d: Deviations, repair: u64) -> NetKwh
-    ensures { λ r. ⌜ r .0 ≡ (1 - repair) * deviationOf d 6 .0 ⌝ }
+// What counts of the deviation at index j: nothing on a repair day that exempts its kind.
+fn counted_at(d: Deviations, repair: u64, j: usize) -> NetKwh
+    requires { ⌜ j < kinds ⌝ }
+    ensures { λ r. ⌜ r .0 ≡ countedAt d repair j ⌝ }
 {
     if repair == 0 {
-        return of_kind(d, 6);
+        return d.kwh[j];
     }
-    NetKwh(0)
+    if kind_weight(j).exempt {
+        return NetKwh(0);
+    }
+    d.kwh[j]
+}
+
+// What q takes of it: nothing of a kind without a weight.
+fn counted_part(d: Deviations, repair: u64, j: usize) -> NetKwh
+    requires { ⌜ j < kinds ⌝ }
+    ensures { λ r. ⌜ r .0 ≡ countedPart d repair j ⌝ }
+{
+    if kind_weight(j).tenths == 0 {
+        return NetKwh(0);
+    }
+    counted_at(d, repair, j)
 }
 
 // The counted deviation q.
@@ -132,8 +199,13 @@ pub fn counted_deviation(d: Deviations, repair: u64) -> NetKwh
     requires { ⌜ Bounded d ⌝ }
     ensures { λ r. ⌜ r ≡ countedDeviation d repair ⌝ }
 {
-    let tested = of_kind(d, 2).plus(of_kind(d, 3));
-    tested.plus(counted_of_6(d, repair))
+    let mut q = NetKwh(0);
+    let mut j: usize = 0;
+    while j < KINDS {
+        q = q.plus(counted_part(d, repair, j));
+        j += 1;
+    }
+    q
 }
 
 // Whether the counted deviation is charged: over 2,000 kWh, or twenty times it over the reading; of an unmeasured unit, twenty times it
@@ -157,8 +229,13 @@ pub fn weighted(d: Deviations, repair: u64) -> u64
     requires { ⌜ Bounded d ⌝ }
     ensures { λ r. ⌜ r ≡ «the_weighted» d repair ⌝ }
 {
-    let tested = of_kind(d, 2).weight(10) + of_kind(d, 3).weight(5);
-    tested + counted_of_6(d, repair).weight(10)
+    let mut w: u64 = 0;
+    let mut j: usize = 0;
+    while j < KINDS {
+        w += counted_at(d, repair, j).weight(kind_weight(j).tenths);
+        j += 1;
+    }
+    w
 }
 
 // The charge of the first hour, b.

@@ -11,7 +11,7 @@ use Rattle.offer.proofs.Quick.{costFrom}
 use Rattle.apportion.specs.Shares.{largest, addOnes, shares}
 use Rattle.record.specs.Spans.{countedKind}
 use Rattle.allocation.specs.Allocation.{netEnergy, realSum, excess, weightAt, excessShares, ceilingAt, ceilings-is}
-use Rattle.formulas.specs.Items.{energyPay, availability, inSeason, declarationCeiling, refundKwh, refund, countedDeviation, isCharged, weighted, baseCharge, hoursCounted, growth, chargeOf, drawnPay}
+use Rattle.formulas.specs.Items.{energyPay, availability, inSeason, declarationCeiling, refundKwh, refund, kindWeights, kindWeight, countedAt, countedDeviation, isCharged, weighted, baseCharge, hoursCounted, growth, chargeOf, drawnPay}
 use Rattle.settlement.specs.Deviation.{proportion, proportions, deviationsOf}
 use Rattle.settlement.specs.Hour.{plantOf, ratesOf, availabilityItem, refundItem, testItem}
 use Rattle.marked.specs.Figures.{net, daySheet, takes, hourRecord, Right, rows, AllRight}
@@ -19,7 +19,7 @@ use Rattle.marked.proofs.Example.{place-is}
 
 -- in the order of the rows
 pub marked-rows : AllRight rows
-unfolding Right AllRight plantOf netEnergy realSum excess weightAt excessShares ceilingAt hubOf isMember memberAt costFrom grainsOf netOf gateOf payOf sum tabulate largest addOnes shares countedKind energyPay availability inSeason declarationCeiling refundKwh refund countedDeviation isCharged weighted baseCharge hoursCounted growth chargeOf drawnPay proportion proportions deviationsOf ratesOf availabilityItem refundItem testItem
+unfolding Right AllRight plantOf netEnergy realSum excess weightAt excessShares ceilingAt hubOf isMember memberAt costFrom grainsOf netOf gateOf payOf sum tabulate largest addOnes shares countedKind energyPay availability inSeason declarationCeiling refundKwh refund kindWeights kindWeight countedAt countedDeviation isCharged weighted baseCharge hoursCounted growth chargeOf drawnPay proportion proportions deviationsOf ratesOf availabilityItem refundItem testItem
 marked-rows = (
   λ free. ap (λ (l : List ℤ). pos 1 ∷ (pos 1 ∷ l)) (place-is free 0 refl),
   (

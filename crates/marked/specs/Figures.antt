@@ -1,10 +1,10 @@
 -- The marked figures of 01 (Program and marked figures) as the rows of a table, and what makes a row right.
 use mathlib.Core.Path.{_≡_}
 use mathlib.Core.Bool.{Bool, true, false, cond}
-use mathlib.Core.List.{List, [], _∷_, _++_}
+use mathlib.Core.List.{List, [], _∷_}
 use Prim.Native.Nat.{ℕ, _-_}
 use lib.IntN.{ℤ, pos}
-use lib.ListN.{getD, replicate}
+use lib.ListN.{getD, set, replicate}
 use Rattle.energy.specs.declared.GrossKwh.{GrossKwh}
 use Rattle.energy.specs.declared.NetKwh.{NetKwh}
 use Rattle.energy.specs.declared.HubKwh.{HubKwh}
@@ -19,7 +19,7 @@ use Rattle.record.specs.Hour.{noSpan, noUnit}
 use Rattle.allocation.specs.Fill.{grainsAt}
 use Rattle.allocation.specs.Allocation.{ceilings}
 use Rattle.formulas.specs.declared.Deviations.{Deviations}
-use Rattle.formulas.specs.Items.{noDeviation, inSeason, declarationCeiling, refund, countedDeviation, isCharged, weighted, chargeOf, drawnPay}
+use Rattle.formulas.specs.Items.{firstKind, kinds, noDeviation, inSeason, declarationCeiling, refund, countedDeviation, isCharged, weighted, chargeOf, drawnPay}
 use Rattle.settlement.specs.declared.HourResult.{HourResult}
 use Rattle.settlement.specs.Hour.{pastAmounts, plantOf, hourResult}
 
@@ -125,12 +125,9 @@ abbrev pub fields : ℕ → HourResult → ℕ → List ℤ
 fields hour result unit =
     pos hour ∷ (pos unit ∷ (pos (grainsAt (result .energy) (unit - 1)) ∷ getD (result .amounts) (unit - 1) pastAmounts .item))
 
--- deviations of kind 2, or of kind 7, alone
-abbrev pub onlyKind2 : ℕ → Deviations
-onlyKind2 n = record { kwh = record { 0 = n } ∷ replicate 5 noDeviation }
-
-abbrev pub onlyKind7 : ℕ → Deviations
-onlyKind7 n = record { kwh = replicate 5 noDeviation ++ (record { 0 = n } ∷ []) }
+-- a deviation of one kind alone
+abbrev pub onlyKind : (kind n : ℕ) → Deviations
+onlyKind kind n = record { kwh = set (replicate kinds noDeviation) (kind - firstKind) (net n) }
 
 -- a row of the table: what is given, then the figure
 pub data Figure : Type 0 where
@@ -163,10 +160,10 @@ Right (chargedBy reading q charged) =
     (energy : HubGrains) (loss : ℕ) → isCharged (net q) true (net reading) energy loss ≡ charged
 Right (chargeFor d2 since charge) =
     (measured : Bool) (reading : NetKwh) (energy : HubGrains)
-    → let d = onlyKind2 d2 in
+    → let d = onlyKind 2 d2 in
     cond (isCharged (countedDeviation d 0) measured reading energy loss) (chargeOf (weighted d 0) since cpf bar) 0 ≡ charge
 Right (refundOf declared real d7 a amount) =
-    refund (net declared) (net real) (onlyKind7 d7) (netOf (gross a) 0) cpf bar ≡ amount
+    refund (net declared) (net real) (onlyKind 7 d7) (netOf (gross a) 0) cpf bar ≡ amount
 Right (drawnFor reverse n ceiling amount) = drawnPay (net reverse) (net n) ceiling loss ≡ amount
 
 -- "Marked (with those three rows): .."

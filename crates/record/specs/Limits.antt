@@ -25,9 +25,9 @@ mostSpans = 6
 abbrev pub hourMinutes : ℕ
 hourMinutes = 60
 
--- "kind 1–7"
+-- "kind 1–7"; 02, wish 1: "Spans admit kind 8"
 abbrev pub lastKind : ℕ
-lastKind = 7
+lastKind = 8
 
 -- "cause 0 none, 1 environment, 2 frequency control"
 abbrev pub lastCause : ℕ

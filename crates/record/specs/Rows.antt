@@ -19,7 +19,7 @@ headRows =
     ∷ []
 
 -- "Spans: 1 to 6 of minutes:kind:cause:capability joined by commas; minutes 1–60, kind 1–7 (..), cause 0 none, 1 environment,
--- 2 frequency control, capability gross 0–10^6"
+-- 2 frequency control, capability gross 0–10^6"; 02, wish 1: "Spans admit kind 8"
 unfoldable pub spansRow : Row
 spansRow =
     record {

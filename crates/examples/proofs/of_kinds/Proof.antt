@@ -1,16 +1,25 @@
--- Each figure is at most 10^5, so that W is at most 2.5 × 10^6.
+-- Each of the five figures is at most 10^5, so that all are at most 5 × 10^5 and W is at most ten times that.
 -- Assumes nothing.
+use mathlib.Core.List.{[], _∷_}
+use Prim.Native.Nat.{ℕ, _≤_}
 use native.Mathlib.Omega.{arith}
-use Rattle.formulas.specs.Items.{weighted}
-use Rattle.examples.proofs.Short.{short}
+use lib.ListN.{getD}
+use Rattle.finite.specs.Finite.{sum}
+use Rattle.formulas.specs.declared.Deviations.{Deviations}
+use Rattle.formulas.specs.Items.{kinds, noDeviation}
+use Rattle.formulas.proofs.Laws.{deviation-most, weighted-most}
+use Rattle.examples.proofs.Ranges.{netKwh}
 use Rattle.examples.proofs.of_kinds.Statement.{statement}
 use Rattle.examples.proofs.of_kinds.Tie as tie
 
 returns : tie.Need-returns
-unfolding weighted
+unfolding sum
 returns c =
     let a = c .args in
-    (λ i l. short (a .d2) (a .d3) 0 (a .d5) (a .d6) 0 i (omega arith) (omega arith) (omega arith) (omega arith) (omega arith) (omega arith), omega arith)
+    let d : Deviations = record { kwh = netKwh (a .d2) ∷ netKwh (a .d3) ∷ netKwh 0 ∷ netKwh (a .d5) ∷ netKwh (a .d6) ∷ netKwh 0 ∷ netKwh (a .d8) ∷ [] } in
+    let split : sum kinds (λ i. getD (d .kwh) i noDeviation .0) ≤ 500000 = omega arith in
+    let w = weighted-most d 500000 split in
+    (λ j l. omega (arith, deviation-most d 500000 split j l), omega (arith, w 0), omega (arith, w 1))
 
 pub of-kinds-spec : {M : Type 1} → statement M
 of-kinds-spec = tie.close (tie.spec returns)

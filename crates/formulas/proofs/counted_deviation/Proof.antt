@@ -1,45 +1,66 @@
--- The sums fit; the result is the definition.
+-- The loop's invariant: q is the sum of the kinds passed, which fits.
 -- Assumes nothing.
-use mathlib.Core.Path.{_≡_}
-use Prim.Native.Nat.{_+_, _*_, _-_}
+use mathlib.Core.Path.{_≡_, refl, _∙_, ap}
+use Prim.Native.Nat.{ℕ, _-_, _≤_}
 use native.Mathlib.Omega.{arith}
-use Rattle.formulas.specs.Items.{deviationOf, countedDeviation}
-use Rattle.formulas.proofs.Laws.{exempt-most}
+use Rattle.finite.specs.Finite.{sum}
+use Rattle.finite.proofs.Sums.{sum-next}
+use Rattle.formulas.specs.Items.{kinds, countedPart, countedDeviation}
 use borrow.Author.Needs.{needs}
+use Rattle.formulas.proofs.Weights.{counted-fits}
 use Rattle.formulas.proofs.counted_deviation.Statement.{statement}
 use Rattle.formulas.proofs.counted_deviation.Tie as tie
 
-of-kind-requires : tie.Need-of-kind-requires
-of-kind-requires c κs = search needs
+abbrev Inv-loop : tie.InvT-loop
+Inv-loop d repair q₀ j₀ q j = (j ≤ kinds) × (q .0 ≡ sum j (countedPart d repair))
 
-of-kind-requires-2 : tie.Need-of-kind-requires-2
-of-kind-requires-2 c κs = search needs
+abbrev μ-loop : tie.MeasureT-loop
+μ-loop d repair q₀ j₀ q j = kinds - j
 
-plus-requires : tie.Need-plus-requires
-plus-requires c κs = omega (arith, c .before .before .pre 0 (omega arith), c .before .before .pre 1 (omega arith))
+loop-holds : tie.Need-loop-holds Inv-loop μ-loop
+unfolding sum
+loop-holds c = (omega arith, refl)
 
-counted-of-6-requires : tie.Need-counted-of-6-requires
-counted-of-6-requires c κs = search needs
+counted-part-requires : tie.Need-counted-part-requires Inv-loop μ-loop
+counted-part-requires c κs = search needs
 
-plus-requires-2 : tie.Need-plus-requires-2
-plus-requires-2 c κs =
-    let s = c .before .before .before .before in
-    omega (arith, exempt-most (s .args .d) (s .args .repair) (s .pre), s .pre 0 (omega arith), s .pre 1 (omega arith))
+plus-requires : tie.Need-plus-requires Inv-loop μ-loop
+plus-requires c κs =
+    let start = c .before .before .before in
+    let l = c .before .before .loop in
+    omega (arith, counted-fits (start .args .d) (start .args .repair) (start .pre) (l .j) (omega arith))
 
-returns : tie.Need-returns
+add-j : tie.Need-add-j Inv-loop μ-loop
+add-j c = search needs
+
+loop-less : tie.Need-loop-less Inv-loop μ-loop
+loop-less c = search needs
+
+loop-again : tie.Need-loop-again Inv-loop μ-loop
+loop-again c =
+    let a = c .before .before .before .before .args in
+    let l = c .before .before .before .loop in
+    (omega arith, omega (arith, sum-next (l .j) (countedPart (a .d) (a .repair))))
+
+returns : tie.Need-returns Inv-loop μ-loop
 unfolding countedDeviation
 returns c =
-    let a = c .before .before .before .before .before .args in
-    let e : c .plus2 .result .0 ≡ deviationOf (a .d) 2 .0 + deviationOf (a .d) 3 .0 + (1 - a .repair) * deviationOf (a .d) 6 .0 = omega arith in
+    let a = c .before .before .args in
+    let l = c .before .loop in
+    let n : l .j ≡ kinds = omega arith in
+    let e = l .inv .1 ∙ ap (λ (n : ℕ). sum n (countedPart (a .d) (a .repair))) n in
     λ i. record { 0 = e i }
 
 pub counted-deviation-spec : {M : Type 1} → statement M
 counted-deviation-spec =
     tie.close
     (tie.spec
-    of-kind-requires
-    of-kind-requires-2
+    Inv-loop
+    μ-loop
+    loop-holds
+    counted-part-requires
     plus-requires
-    counted-of-6-requires
-    plus-requires-2
+    add-j
+    loop-less
+    loop-again
     returns)

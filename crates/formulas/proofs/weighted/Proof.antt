@@ -1,54 +1,81 @@
--- The sums fit; the result is the definition.
+-- The loop's invariant: W is the sum of the kinds passed, which fits.
 -- Assumes nothing.
+use mathlib.Core.Path.{_≡_, refl, _∙_, ap}
+use Prim.Native.Nat.{ℕ, _*_, _-_, _≤_}
 use native.Mathlib.Omega.{arith}
-use Rattle.formulas.specs.Items.{weighted}
-use Rattle.formulas.proofs.Laws.{exempt-most}
+use Rattle.finite.specs.Finite.{sum}
+use Rattle.finite.proofs.Sums.{sum-next}
+use Rattle.formulas.specs.Items.{kinds, weightedPart, weighted}
 use borrow.Author.Needs.{needs}
+use Rattle.formulas.proofs.Weights.{part-fits, weighted-fits}
 use Rattle.formulas.proofs.weighted.Statement.{statement}
 use Rattle.formulas.proofs.weighted.Tie as tie
 
-of-kind-requires : tie.Need-of-kind-requires
-of-kind-requires c κs = search needs
+abbrev Inv-loop : tie.InvT-loop
+Inv-loop d repair w₀ j₀ w j = (j ≤ kinds) × (w ≡ sum j (weightedPart d repair))
 
-weight-requires : tie.Need-weight-requires
-weight-requires c κs = omega (arith, c .before .pre 0 (omega arith))
+abbrev μ-loop : tie.MeasureT-loop
+μ-loop d repair w₀ j₀ w j = kinds - j
 
-of-kind-requires-2 : tie.Need-of-kind-requires-2
-of-kind-requires-2 c κs = search needs
+loop-holds : tie.Need-loop-holds Inv-loop μ-loop
+unfolding sum
+loop-holds c = (omega arith, refl)
 
-weight-requires-2 : tie.Need-weight-requires-2
-weight-requires-2 c κs = omega (arith, c .before .before .before .pre 1 (omega arith))
+-- the code's product is the kind's part of W
+part : (c : tie.After-kind-weight Inv-loop μ-loop) →
+    let a = c .before .before .before .before .args in
+    c .before .counted-at .result .0 * c .kind-weight .result .tenths ≡ weightedPart (a .d) (a .repair) (c .before .before .before .loop .j)
+part c = λ i. c .before .counted-at .ensures i * (c .kind-weight .ensures i) .tenths
 
-add-tested : tie.Need-add-tested
-add-tested c = let s = c .before .before .before .before in omega (arith, s .pre 0 (omega arith), s .pre 1 (omega arith))
+counted-at-requires : tie.Need-counted-at-requires Inv-loop μ-loop
+counted-at-requires c κs = search needs
 
-counted-of-6-requires : tie.Need-counted-of-6-requires
-counted-of-6-requires c κs = search needs
+kind-weight-requires : tie.Need-kind-weight-requires Inv-loop μ-loop
+kind-weight-requires c κs = search needs
 
-weight-requires-3 : tie.Need-weight-requires-3
-weight-requires-3 c κs =
-    let s = c .before .before .before .before .before in
-    omega (arith, exempt-most (s .args .d) (s .args .repair) (s .pre))
+weight-requires : tie.Need-weight-requires Inv-loop μ-loop
+weight-requires c κs =
+    let start = c .before .before .before .before in
+    omega (arith, part c, part-fits (start .args .d) (start .args .repair) (start .pre) (c .before .before .before .loop .j) (omega arith))
 
-add-result : tie.Need-add-result
-add-result c =
-    let s = c .before .before .before .before .before .before in
-    omega (arith, exempt-most (s .args .d) (s .args .repair) (s .pre), s .pre 0 (omega arith), s .pre 1 (omega arith))
+add-w : tie.Need-add-w Inv-loop μ-loop
+add-w c =
+    let start = c .before .before .before .before .before in
+    let l = c .before .before .before .before .loop in
+    omega (arith, part (c .before), weighted-fits (start .args .d) (start .args .repair) (start .pre) (l .j) (omega arith))
 
-returns : tie.Need-returns
+add-j : tie.Need-add-j Inv-loop μ-loop
+add-j c = search needs
+
+loop-less : tie.Need-loop-less Inv-loop μ-loop
+loop-less c = search needs
+
+loop-again : tie.Need-loop-again Inv-loop μ-loop
+loop-again c =
+    let a = c .before .before .before .before .before .args in
+    let l = c .before .before .before .before .loop in
+    (omega arith, omega (arith, part (c .before), sum-next (l .j) (weightedPart (a .d) (a .repair))))
+
+returns : tie.Need-returns Inv-loop μ-loop
 unfolding weighted
-returns c = omega arith
+returns c =
+    let a = c .before .before .args in
+    let l = c .before .loop in
+    let n : l .j ≡ kinds = omega arith in
+    l .inv .1 ∙ ap (λ (n : ℕ). sum n (weightedPart (a .d) (a .repair))) n
 
 pub weighted-spec : {M : Type 1} → statement M
 weighted-spec =
     tie.close
     (tie.spec
-    of-kind-requires
+    Inv-loop
+    μ-loop
+    loop-holds
+    counted-at-requires
+    kind-weight-requires
     weight-requires
-    of-kind-requires-2
-    weight-requires-2
-    add-tested
-    counted-of-6-requires
-    weight-requires-3
-    add-result
+    add-w
+    add-j
+    loop-less
+    loop-again
     returns)
