@@ -160,7 +160,8 @@ fn cost(offer: &Offer, commitment: u64, energy: u64) -> u128 {
 }
 
 /// Item 4 never exceeds W × 125 × cpf × bar × 21^n / (10^9 × 20^n) and falls
-/// short of it by under 130 Rial.
+/// short of it by under 130 Rial. q and W are written out as document 01 has
+/// them, with wish 1 of document 02: q gains d8 and W gains 3 × d8.
 fn charge_bound(
     sheet: &Sheet,
     h: usize,
@@ -170,14 +171,14 @@ fn charge_bound(
     item: i64,
 ) -> Result<(), String> {
     let said = &record.units[u];
-    let [d2, d3, _, _, d6, _] = items::deviations(&sheet.units[u], said);
+    let [d2, d3, _, _, d6, _, d8] = items::deviations(&sheet.units[u], said);
     let d6 = if said.repair == 1 { 0 } else { d6 };
-    if !items::is_charged(sheet, d2 + d3 + d6, said.reading, energy) {
+    if !items::is_charged(sheet, d2 + d3 + d6 + d8, said.reading, energy) {
         return require(item == 0, || format!("unit {}: charged", u + 1));
     }
     let n = (said.since - 1).min(24);
     let charge = item.unsigned_abs();
-    let mut exact = Wide::new(10 * d2 + 5 * d3 + 10 * d6);
+    let mut exact = Wide::new(10 * d2 + 5 * d3 + 10 * d6 + 3 * d8);
     for factor in [125, sheet.cpf[h], sheet.bar] {
         exact.multiply(factor);
     }

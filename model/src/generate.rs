@@ -6,7 +6,7 @@
 use crate::damage::damage;
 use crate::ledger::Group;
 use crate::random::Random;
-use crate::record::{Record, Span, Spans, UnitRecord, KINDS, MOST_NET};
+use crate::record::{Record, Span, Spans, UnitRecord, KINDS, LAST_KIND, MOST_NET, SPANS};
 use crate::sheet::{days_in, Offer, Sheet, Step, UnitSheet, MOST_KWH, MOST_PRICE};
 use crate::text::{put_number, LARGEST_TEXT};
 use crate::{HOURS, ITEMS, UNITS};
@@ -285,10 +285,12 @@ fn value(random: &mut Random, scale: Scale, least: u64, most: u64, usual: u64) -
     value.clamp(least, most)
 }
 
-/// What is wrong with a record that is well formed.
+/// What is wrong with a record whose lines are well formed.
 #[derive(Clone, Copy, PartialEq, Eq)]
 enum Fault {
     None,
+    /// A span's kind is out of its range.
+    Kind,
     Minutes,
     Readings,
     Proportions,
@@ -432,7 +434,7 @@ impl Maker<'_> {
     fn faulty_line(&mut self, text: &mut Vec<u8>, hour: usize) {
         let h = hour as u64;
         let unit = self.unit();
-        let fault = match self.random.below(12) {
+        let fault = match self.random.below(13) {
             0 => {
                 let hour = self.wrong_hour();
                 return put_words(text, "take=", &[hour, unit, 1]);
@@ -447,52 +449,33 @@ impl Maker<'_> {
                 let kwh = self.room(hour, unit) + over;
                 return put_words(text, "take=", &[h, unit, kwh]);
             }
-            5 | 6 => {
-                // An hour that stands: its record again, or a take.
-                let standing: Vec<usize> =
-                    (1..=HOURS).filter(|&hour| self.stands[hour - 1]).collect();
-                if standing.is_empty() {
-                    return;
-                }
-                let hour = *self.random.pick(&standing);
-                if self.random.percent(50) {
-                    let kwh = *self.random.pick(&[0, 1, 999_999_999]);
-                    return put_words(text, "take=", &[hour as u64, unit, kwh]);
-                }
-                let fault =
-                    *self
-                        .random
-                        .pick(&[Fault::None, Fault::None, Fault::Readings, Fault::Minutes]);
-                let record = self.record(hour, fault);
-                return self.put_record(text, &record);
-            }
+            5 | 6 => return self.line_for_standing(text, unit),
             7 => {
-                let line = *self.random.pick(&[
-                    &b"take=1:1\n"[..],
-                    b"take=1:1:1:1\n",
-                    b"take=\n",
-                    b"take=1:1:\n",
-                    b"take=1:1:1000000000\n",
-                    b"take=0000000001:1:1\n",
-                    b"take=1:01:1\n",
-                    b"take=1:1:1\r\n",
-                    b"take=1:1: 1\n",
-                    b"release=1:1:1\n",
-                    b"Take=1:1:1\n",
-                    b"take:1:1:1\n",
-                    b"\n",
-                    b"end=day\n",
-                    b"net=1\n",
-                    b"=\n",
-                    b"hour=\n",
-                    b"hour\n",
-                ]);
+                let line = *self.random.pick(&WRONG_LINES);
                 return text.extend_from_slice(line);
             }
             8 => Fault::Minutes,
             9 | 10 => Fault::Readings,
+            11 => Fault::Kind,
             _ => Fault::Proportions,
         };
+        let record = self.record(hour, fault);
+        self.put_record(text, &record);
+    }
+
+    /// For an hour that stands, if there is one: its record again, or a take.
+    fn line_for_standing(&mut self, text: &mut Vec<u8>, unit: u64) {
+        let standing: Vec<usize> = (1..=HOURS).filter(|&hour| self.stands[hour - 1]).collect();
+        if standing.is_empty() {
+            return;
+        }
+        let hour = *self.random.pick(&standing);
+        if self.random.percent(50) {
+            let kwh = *self.random.pick(&[0, 1, 999_999_999]);
+            return put_words(text, "take=", &[hour as u64, unit, kwh]);
+        }
+        let faults = [Fault::None, Fault::None, Fault::Readings, Fault::Minutes];
+        let fault = *self.random.pick(&faults);
         let record = self.record(hour, fault);
         self.put_record(text, &record);
     }
@@ -541,12 +524,7 @@ impl Maker<'_> {
             1..=3 => self.commitment_call(&mut group),
             4 | 5 => {
                 let hour = self.hour_that(kind == 5, 85);
-                let fault = match self.random.below(if filler { 1_000 } else { 100 }) {
-                    0..=2 => Fault::Minutes,
-                    3..=6 => Fault::Readings,
-                    7..=9 => Fault::Proportions,
-                    _ => Fault::None,
-                };
+                let fault = self.some_fault(filler);
                 let record = self.record(hour, fault);
                 let begin = text.len();
                 self.put_record(text, &record);
@@ -577,6 +555,17 @@ impl Maker<'_> {
             }
         }
         group
+    }
+
+    /// What is wrong with the record of a call; nothing most of the time.
+    fn some_fault(&mut self, filler: bool) -> Fault {
+        match self.random.below(if filler { 1_000 } else { 100 }) {
+            0..=2 => Fault::Minutes,
+            3..=6 => Fault::Readings,
+            7..=9 => Fault::Proportions,
+            10 => Fault::Kind,
+            _ => Fault::None,
+        }
     }
 
     /// Hour, units and kWh of a take, release or move.
@@ -725,6 +714,9 @@ impl Maker<'_> {
         if self.random.percent(12) {
             self.near_tolerance(&mut record, &members);
         }
+        if self.random.percent(12) {
+            self.kind_8_decides(&mut record, &members);
+        }
         for &u in &members {
             let unit = &mut record.units[u];
             if unit.deviation > 0 && unit.proportions(&self.sheet.units[u]) == [0; KINDS] {
@@ -807,7 +799,7 @@ impl Maker<'_> {
             };
             spans.push(Span {
                 minutes,
-                kind: *random.pick(&[1, 2, 2, 3, 3, 4, 5, 6, 6, 7]),
+                kind: *random.pick(&[1, 2, 2, 3, 3, 4, 5, 6, 6, 7, 8, 8]),
                 cause: *random.pick(&[0, 0, 0, 1, 2]),
                 capability: capability.min(MOST_KWH),
             });
@@ -879,11 +871,13 @@ impl Maker<'_> {
         let unit = &mut record.units[u];
         unit.test = unit.test.max(1);
         unit.deviation = q;
+        let kinds = [(2, 0), (3, 0), (6, 0), (8, 0), (8, 1), (8, 2)];
+        let (kind, cause) = *random.pick(&kinds);
         unit.spans = Spans::default();
         unit.spans.push(Span {
             minutes: 60,
-            kind: *random.pick(&[2, 3, 6]),
-            cause: 0,
+            kind,
+            cause,
             capability: 0,
         });
         let energy = (20 * q + random.below(3)).saturating_sub(1);
@@ -904,66 +898,39 @@ impl Maker<'_> {
         }
     }
 
+    /// Spans of a unit in which kind 8 decides.
+    fn kind_8_decides(&mut self, record: &mut Record, members: &[usize]) {
+        let u = *self.random.pick(members);
+        let unit = &mut record.units[u];
+        unit.test = unit.test.max(1);
+        if self.random.percent(30) {
+            unit.deviation = unit.deviation.max(1);
+            only_kind_8_lacks(self.random, &self.sheet.units[u], unit);
+        } else {
+            unit.deviation = match self.random.below(3) {
+                0 => self.random.range(1, 12),
+                // d8 of about 2,000 where two or three kinds tie.
+                1 => *self.random.pick(&[4_001, 4_003, 6_001, 6_002]),
+                _ => self.random.range(1, MOST_KWH),
+            };
+            kind_8_ties(self.random, unit);
+        }
+    }
+
     fn put_fault(&mut self, record: &mut Record, members: &[usize], fault: Fault) {
         let random = &mut *self.random;
         let u = *random.pick(members);
+        let unit = &mut record.units[u];
         match fault {
             Fault::None => {}
-            Fault::Minutes => {
-                let spans = &mut record.units[u].spans;
-                let at = random.below(spans.count as u64) as usize;
-                let span = &mut spans.list[at];
-                let other = match random.below(3) {
-                    0 => span.minutes - 1,
-                    1 => span.minutes + 1,
-                    _ => random.range(1, 60),
-                };
-                span.minutes = other.clamp(1, 60);
-                if spans.minutes() == 60 {
-                    let first = &mut spans.list[0].minutes;
-                    *first = if *first == 60 { 59 } else { *first + 1 };
-                }
+            Fault::Kind => {
+                let at = random.below(unit.spans.count as u64) as usize;
+                let wrong = [0, LAST_KIND + 1, LAST_KIND + 1, 10, 18, 80];
+                unit.spans.list[at].kind = *random.pick(&wrong);
             }
-            Fault::Readings => {
-                let more = *random.pick(&[1, 1, 2, 1_000]);
-                if random.percent(50) {
-                    // All measured and not `net`.
-                    let mut total = 0;
-                    for &u in members {
-                        let reading = record.units[u].reading.unwrap_or(0);
-                        record.units[u].reading = Some(reading);
-                        total += reading;
-                    }
-                    let less = random.percent(50) || total + more > MOST_NET;
-                    record.net = if less && total >= more {
-                        total - more
-                    } else {
-                        total + more
-                    };
-                } else {
-                    // Too much in all.
-                    record.net = record.net.min(MOST_KWH - 1_000);
-                    record.units[u].reading = Some(record.net + more);
-                }
-            }
-            Fault::Proportions => {
-                let unit = &mut record.units[u];
-                unit.deviation = unit.deviation.max(1);
-                match random.below(3) {
-                    0 => unit.test = 0,
-                    1 => unit.spans = Spans::whole_hour(unit.declared),
-                    _ => {
-                        let own = self.sheet.units[u].own;
-                        let gross = (unit.test * 10_000).div_ceil(10_000 - own);
-                        for span in &mut unit.spans.list[..unit.spans.count] {
-                            span.capability = gross.min(MOST_KWH);
-                        }
-                        if unit.proportions(&self.sheet.units[u]) != [0; KINDS] {
-                            unit.test = 0;
-                        }
-                    }
-                }
-            }
+            Fault::Minutes => put_wrong_minutes(random, &mut unit.spans),
+            Fault::Readings => put_wrong_readings(random, record, members, u),
+            Fault::Proportions => put_no_proportions(random, &self.sheet.units[u], unit),
         }
     }
 
@@ -972,6 +939,143 @@ impl Maker<'_> {
         let compact = self.compact;
         let random = &mut *self.random;
         put_record(out, &self.sheet, record, || compact || random.percent(60));
+    }
+}
+
+/// Lines that are no part of a day.
+const WRONG_LINES: [&[u8]; 18] = [
+    b"take=1:1\n",
+    b"take=1:1:1:1\n",
+    b"take=\n",
+    b"take=1:1:\n",
+    b"take=1:1:1000000000\n",
+    b"take=0000000001:1:1\n",
+    b"take=1:01:1\n",
+    b"take=1:1:1\r\n",
+    b"take=1:1: 1\n",
+    b"release=1:1:1\n",
+    b"Take=1:1:1\n",
+    b"take:1:1:1\n",
+    b"\n",
+    b"end=day\n",
+    b"net=1\n",
+    b"=\n",
+    b"hour=\n",
+    b"hour\n",
+];
+
+/// The least gross kWh whose net is no less than that.
+fn gross_of(unit: &UnitSheet, net: u64) -> u64 {
+    (net * 10_000).div_ceil(10_000 - unit.own)
+}
+
+/// Two spans, one of kind 8 that lacks something, one that has no proportion.
+fn only_kind_8_lacks(random: &mut Random, sheet: &UnitSheet, unit: &mut UnitRecord) {
+    let minutes = random.range(1, 59);
+    let enough = gross_of(sheet, unit.test);
+    let lacking = Span {
+        minutes,
+        kind: 8,
+        cause: random.below(3),
+        capability: random.below(unit.test),
+    };
+    let other = Span {
+        minutes: 60 - minutes,
+        // Kind 1 is no part of the split.
+        kind: if enough > MOST_KWH {
+            1
+        } else {
+            random.range(1, LAST_KIND)
+        },
+        cause: random.below(3),
+        capability: enough.min(MOST_KWH),
+    };
+    let mut two = [lacking, other];
+    two.rotate_left(random.below(2) as usize);
+    unit.spans = Spans::default();
+    two.into_iter().for_each(|span| unit.spans.push(span));
+}
+
+/// Spans of one length and one capability, so that kinds tie: one of kind 8,
+/// one that counts as 7 most of the time, others of any kind.
+fn kind_8_ties(random: &mut Random, unit: &mut UnitRecord) {
+    let lower = [(7, 0), (7, 1), (7, 2), (2, 1), (3, 1), (2, 0), (5, 0)];
+    // Each of these counts divides 60.
+    let count = *random.pick(&[2, 2, 3, 4, 5, SPANS]);
+    let capability = random.below(unit.test);
+    let mut kinds = [(0, 0); SPANS];
+    for kind in &mut kinds {
+        *kind = (random.range(1, LAST_KIND), random.below(3));
+    }
+    kinds[0] = (8, random.below(3));
+    kinds[1] = *random.pick(&lower);
+    kinds[..count].rotate_left(random.below(count as u64) as usize);
+    unit.spans = Spans::default();
+    for &(kind, cause) in &kinds[..count] {
+        unit.spans.push(Span {
+            minutes: 60 / count as u64,
+            kind,
+            cause,
+            capability,
+        });
+    }
+}
+
+/// Spans whose minutes are not 60 in all.
+fn put_wrong_minutes(random: &mut Random, spans: &mut Spans) {
+    let at = random.below(spans.count as u64) as usize;
+    let span = &mut spans.list[at];
+    let other = match random.below(3) {
+        0 => span.minutes - 1,
+        1 => span.minutes + 1,
+        _ => random.range(1, 60),
+    };
+    span.minutes = other.clamp(1, 60);
+    if spans.minutes() == 60 {
+        let first = &mut spans.list[0].minutes;
+        *first = if *first == 60 { 59 } else { *first + 1 };
+    }
+}
+
+/// Readings that do not go with `net`.
+fn put_wrong_readings(random: &mut Random, record: &mut Record, members: &[usize], u: usize) {
+    let more = *random.pick(&[1, 1, 2, 1_000]);
+    if random.percent(50) {
+        // All measured and not `net`.
+        let mut total = 0;
+        for &u in members {
+            let reading = record.units[u].reading.unwrap_or(0);
+            record.units[u].reading = Some(reading);
+            total += reading;
+        }
+        let less = random.percent(50) || total + more > MOST_NET;
+        record.net = if less && total >= more {
+            total - more
+        } else {
+            total + more
+        };
+    } else {
+        // Too much in all.
+        record.net = record.net.min(MOST_KWH - 1_000);
+        record.units[u].reading = Some(record.net + more);
+    }
+}
+
+/// A deviation and nothing to split it by.
+fn put_no_proportions(random: &mut Random, sheet: &UnitSheet, unit: &mut UnitRecord) {
+    unit.deviation = unit.deviation.max(1);
+    match random.below(3) {
+        0 => unit.test = 0,
+        1 => unit.spans = Spans::whole_hour(unit.declared),
+        _ => {
+            let gross = gross_of(sheet, unit.test);
+            for span in &mut unit.spans.list[..unit.spans.count] {
+                span.capability = gross.min(MOST_KWH);
+            }
+            if unit.proportions(sheet) != [0; KINDS] {
+                unit.test = 0;
+            }
+        }
     }
 }
 
@@ -1282,6 +1386,38 @@ mod tests {
                 assert!(wrong[number - 31], "{case} {number}");
             }
         }
+    }
+
+    /// A kind out of its range is refused 2, at the unit's line of spans.
+    #[test]
+    fn wrong_kinds_are_refused() {
+        for case in 0..500 {
+            let random = &mut Random::for_case(9, case);
+            let mut maker = Maker::new(random, None);
+            let record = maker.record(5, Fault::Kind);
+            let mut text = Vec::new();
+            maker.put_record(&mut text, &record);
+            let refusal = Record::read(&text, 0, &maker.sheet).unwrap_err();
+            // Three lines, then nine a unit, of which spans are the last.
+            assert_eq!((refusal.number, (refusal.line - 3) % 9), (2, 0), "{case}");
+        }
+    }
+
+    /// Kind 9 comes often enough: 1,000 times in a million days at the least.
+    #[test]
+    fn kind_9_comes_often() {
+        let is_kind_9 = |span: &[u8]| span.split(|&byte| byte == b':').nth(1) == Some(b"9");
+        let has_kind_9 = |line: &[u8]| {
+            let value = line.strip_prefix(b"spans=").unwrap_or(b"");
+            value.split(|&byte| byte == b',').any(is_kind_9)
+        };
+        let mut refused = 0;
+        for case in 0..2_000 {
+            let text = day(&mut Random::for_case(10, case));
+            let has_kind_9 = text.split(|&byte| byte == b'\n').any(has_kind_9);
+            refused += u32::from(has_kind_9 && statement::print(&text) == b"refused=2\n");
+        }
+        assert!(refused > 10, "{refused}");
     }
 
     #[test]

@@ -3,7 +3,7 @@
 use crate::generate::{put_record, put_sheet, put_words, CallList};
 use crate::ledger::Group;
 use crate::random::Random;
-use crate::record::{Record, Span, Spans, UnitRecord};
+use crate::record::{Record, Span, Spans, UnitRecord, KINDS};
 use crate::sheet::{Offer, Sheet, Step, UnitSheet, STEPS};
 use crate::text::LARGEST_TEXT;
 use crate::{HOURS, UNITS};
@@ -47,7 +47,7 @@ pub fn large_sheet() -> Sheet {
 }
 
 /// A record of the large sheet's plant with values in all its fields and
-/// `spans` spans a unit.
+/// `spans` spans a unit; the kinds from 2 on take turns from hour to hour.
 pub fn full_record(random: &mut Random, hour: u64, spans: u64) -> Record {
     let mut units = [UnitRecord::default(); UNITS];
     let mut net = 0;
@@ -68,7 +68,7 @@ pub fn full_record(random: &mut Random, hour: u64, spans: u64) -> Record {
         for i in 0..spans {
             unit.spans.push(Span {
                 minutes: if i == 0 { 60 - 10 * (spans - 1) } else { 10 },
-                kind: i % 6 + 2,
+                kind: (hour + i) % KINDS as u64 + 2,
                 cause: random.below(3),
                 capability: random.range(100_000, 599_999),
             });

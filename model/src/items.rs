@@ -1,7 +1,7 @@
 //! The five items of each unit in an hour.
 
 use crate::allocation::{allocate, largest_remainder, Split};
-use crate::record::{Record, UnitRecord, KINDS};
+use crate::record::{part, Record, UnitRecord, KINDS};
 use crate::sheet::{Sheet, UnitSheet};
 use crate::{ITEMS, UNITS};
 
@@ -72,7 +72,8 @@ pub fn declaration_limit(sheet: &Sheet, power: u64) -> u64 {
     }
 }
 
-/// Item 3, before it is negated. `deviations` are d2 to d7.
+/// Item 3, before it is negated. `deviations` are d2 to d8, of which d5 and d7
+/// count.
 pub fn refund(
     sheet: &Sheet,
     unit: &UnitSheet,
@@ -80,18 +81,50 @@ pub fn refund(
     deviations: &[u64; KINDS],
     rate: Rate,
 ) -> u64 {
-    let [_, _, _, d5, _, d7] = deviations;
+    let (d5, d7) = (deviations[part(5)], deviations[part(7)]);
     let declared = unit.net(said.declared);
     let lacking = declared.saturating_sub(said.real + d5 + d7);
     let too_much = declared.saturating_sub(unit.net(declaration_limit(sheet, said.power)));
     rate.value(lacking.max(too_much))
 }
 
-/// d2 to d7.
+/// d2 to d8; at equal remainders the lower kind first.
 pub fn deviations(unit: &UnitSheet, said: &UnitRecord) -> [u64; KINDS] {
     let mut parts = [0; KINDS];
     largest_remainder(said.deviation, &said.proportions(unit), &mut parts);
     parts
+}
+
+/// What becomes of a kind where `repair` is 1.
+#[derive(PartialEq)]
+enum OnRepairDay {
+    Counted,
+    Exempt,
+}
+
+/// The kinds that q and W are made of (001, formulas 5 and 7): the kind, its
+/// tenths in W, and what becomes of it on a repair day. Kind 8 is of wish 1 of
+/// document 02: "q gains d8 and W gains 3 × d8".
+const COUNTED: [(u64, u64, OnRepairDay); 4] = [
+    (2, 10, OnRepairDay::Counted),
+    (3, 5, OnRepairDay::Counted),
+    (6, 10, OnRepairDay::Exempt),
+    (8, 3, OnRepairDay::Counted),
+];
+
+/// q, what counts of the deviation in kWh, and W, its weight in tenths of a
+/// kWh. `deviations` are d2 to d8.
+pub fn counted(said: &UnitRecord, deviations: &[u64; KINDS]) -> (u64, u64) {
+    let mut q = 0;
+    let mut w = 0;
+    for (kind, tenths, on_repair_day) in COUNTED {
+        if said.repair == 0 || on_repair_day == OnRepairDay::Counted {
+            let deviation = deviations[part(kind)];
+            q += deviation;
+            w += tenths * deviation;
+        }
+    }
+    (q, w)
 }
 
 /// Whether a counted deviation of q kWh is charged.
@@ -103,7 +136,7 @@ pub fn is_charged(sheet: &Sheet, q: u64, reading: Option<u64>, energy: u64) -> b
         }
 }
 
-/// Item 4, before it is negated. `deviations` are d2 to d7, `energy` the
+/// Item 4, before it is negated. `deviations` are d2 to d8, `energy` the
 /// unit's grains.
 pub fn test_charge(
     sheet: &Sheet,
@@ -112,12 +145,10 @@ pub fn test_charge(
     energy: u64,
     rate: Rate,
 ) -> u64 {
-    let [d2, d3, _, _, d6, _] = deviations;
-    let d6 = (1 - said.repair) * d6;
-    if !is_charged(sheet, d2 + d3 + d6, said.reading, energy) {
+    let (q, w) = counted(said, deviations);
+    if !is_charged(sheet, q, said.reading, energy) {
         return 0;
     }
-    let w = 10 * d2 + 5 * d3 + 10 * d6;
     // At most 10^7 × 125 × 10^4 × 10^6 = 1.25 × 10^19, within u64.
     let base = w * 125 * rate.cpf * rate.bar / 1_000_000_000;
     // At most 1.25 × 10^10 × 3.23 × 10^8.

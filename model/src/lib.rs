@@ -1,6 +1,6 @@
 //! A plain model of the day's account of one power plant, written from
-//! document 01 alone, to compare another implementation with and to measure
-//! its speed against. See README.md.
+//! document 01 and wish 1 of document 02 alone, to compare another
+//! implementation with and to measure its speed against. See README.md.
 //!
 //! Energies at the plant's gate are whole kWh, energies at the hub whole
 //! grains of 0.1 Wh, money whole Rial. Units and hours are counted from 1 in
@@ -19,6 +19,7 @@ pub mod product;
 pub mod random;
 pub mod record;
 pub mod replay;
+pub mod rules;
 pub mod sheet;
 pub mod shrink;
 pub mod statement;

@@ -104,15 +104,16 @@ pub fn numbers(groups: &[Group]) -> Vec<u64> {
     groups.iter().flat_map(of).collect()
 }
 
-/// Carries out calls on the empty ledger.
-pub fn calls(given: &Given, checks: Checks, written: &mut Written) {
+/// Carries out calls on the empty ledger; gives what they lead to, or nothing
+/// where the sheet is refused.
+pub fn calls(given: &Given, checks: Checks, written: &mut Written) -> Option<Ledger> {
     (written.number, written.line, written.count) = (0, 0, 0);
     let sheet = match Sheet::read(given.sheet) {
         Ok((sheet, _)) => sheet,
         Err(refusal) => {
             written.number = u64::from(refusal.number);
             written.line = u64::from(refusal.line);
-            return;
+            return None;
         }
     };
     let mut ledger = Ledger::new(sheet, length(given.places), checks);
@@ -126,6 +127,7 @@ pub fn calls(given: &Given, checks: Checks, written: &mut Written) {
     put_held(&mut written.held, &ledger);
     put_amounts(&mut written.amounts, &ledger);
     put_postings(&mut written.postings, &ledger);
+    Some(ledger)
 }
 
 /// The length of a journal list of so many places.

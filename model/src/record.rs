@@ -10,8 +10,18 @@ pub const SPANS: usize = 6;
 /// The largest `net` and `reverse`, in kWh.
 pub const MOST_NET: u64 = 8_000_000;
 
-/// The kinds that a deviation is split into are 2 to 7.
-pub const KINDS: usize = 6;
+/// Spans have kinds 1 to 8: 1 to 7 by the annex of 000, 8 by wish 1 of
+/// document 02 ("Spans admit kind 8").
+pub const LAST_KIND: u64 = 8;
+
+/// The kinds that a deviation is split into are 2 to 8 ("d8 joins the split of
+/// the deviation").
+pub const KINDS: usize = LAST_KIND as usize - 1;
+
+/// The index of a kind among the parts of a deviation.
+pub const fn part(kind: u64) -> usize {
+    kind as usize - 2
+}
 
 /// A part of the hour.
 #[derive(Clone, Copy, Debug, Default, PartialEq, Eq)]
@@ -24,7 +34,9 @@ pub struct Span {
 }
 
 impl Span {
-    /// The kind that the span counts as.
+    /// The kind that the span counts as: "Kind 2 or 3 counts as 7 under cause
+    /// 1, as 5 under cause 2." Other kinds stay ("Causes 1 and 2 don't change
+    /// kind 8").
     pub fn counted_kind(&self) -> u64 {
         match (self.kind, self.cause) {
             (2 | 3, 1) => 7,
@@ -73,7 +85,7 @@ impl Spans {
             let mut fields = span.split(|&byte| byte == b':');
             let read = Span {
                 minutes: number(fields.next()?, 1, 60)?,
-                kind: number(fields.next()?, 1, 7)?,
+                kind: number(fields.next()?, 1, LAST_KIND)?,
                 cause: number(fields.next()?, 0, 2)?,
                 capability: number(fields.next()?, 0, MOST_KWH)?,
             };
@@ -109,14 +121,14 @@ pub struct UnitRecord {
 }
 
 impl UnitRecord {
-    /// The proportions that `deviation` is split in, kinds 2 to 7.
+    /// The proportions that `deviation` is split in, kinds 2 to 8.
     pub fn proportions(&self, unit: &UnitSheet) -> [u64; KINDS] {
         let mut proportions = [0; KINDS];
         for span in self.spans.spans() {
-            let kind = span.counted_kind() as usize;
+            let kind = span.counted_kind();
             if kind >= 2 {
                 let lacking = self.test.saturating_sub(unit.net(span.capability));
-                proportions[kind - 2] += lacking * span.minutes;
+                proportions[part(kind)] += lacking * span.minutes;
             }
         }
         proportions

@@ -34,23 +34,24 @@ fn deviation_by_kind() {
         ]),
         ..UnitRecord::default()
     };
-    assert_eq!(said.proportions(&unit), [783_000, 310_500, 0, 0, 0, 0]);
-    assert_eq!(items::deviations(&unit, &said), [12_531, 4_969, 0, 0, 0, 0]);
+    assert_eq!(
+        said.proportions(&unit),
+        of_kinds(&[(2, 783_000), (3, 310_500)])
+    );
+    let split = |said: &UnitRecord| items::deviations(&unit, said);
+    assert_eq!(split(&said), of_kinds(&[(2, 12_531), (3, 4_969)]));
     // Example 18: kind 2 for reasons of environment counts as 7.
     said.test = 80_000;
     said.deviation = 46_000;
     said.spans = spans(&[(40, 2, 0, 40_000), (20, 2, 1, 20_000)]);
-    assert_eq!(said.proportions(&unit), [1_616_000, 0, 0, 0, 0, 1_204_000]);
     assert_eq!(
-        items::deviations(&unit, &said),
-        [26_360, 0, 0, 0, 0, 19_640]
+        said.proportions(&unit),
+        of_kinds(&[(2, 1_616_000), (7, 1_204_000)])
     );
+    assert_eq!(split(&said), of_kinds(&[(2, 26_360), (7, 19_640)]));
     // For frequency control as 5; a cause on other kinds means nothing.
     said.spans = spans(&[(40, 3, 2, 0), (20, 6, 2, 0)]);
-    assert_eq!(
-        items::deviations(&unit, &said),
-        [0, 0, 0, 30_667, 15_333, 0]
-    );
+    assert_eq!(split(&said), of_kinds(&[(5, 30_667), (6, 15_333)]));
 }
 
 #[test]
@@ -94,7 +95,7 @@ fn refund() {
             cpf: 1_500,
             bar: sheet.bar,
         };
-        let deviations = [0, 0, 0, d5, 0, 0];
+        let deviations = of_kinds(&[(5, d5)]);
         let refund = items::refund(&sheet, &sheet.units[0], &said, &deviations, rate);
         assert_eq!(refund, amount, "{real} {power}");
     }

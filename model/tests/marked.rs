@@ -86,17 +86,18 @@ fn test_charge() {
         reading: Some(60_000),
         ..UnitRecord::default()
     };
-    let charge =
-        |said: &UnitRecord, deviations| items::test_charge(&sheet, said, &deviations, 0, RATE);
-    assert_eq!(charge(&said, [3_000, 0, 0, 0, 0, 0]), 413_437);
+    let charge = |said: &UnitRecord, list: &[(u64, u64)]| {
+        items::test_charge(&sheet, said, &of_kinds(list), 0, RATE)
+    };
+    assert_eq!(charge(&said, &[(2, 3_000)]), 413_437);
     said.since = 1;
-    assert_eq!(charge(&said, [2_000, 0, 0, 0, 0, 0]), 0);
-    assert_eq!(charge(&said, [2_001, 0, 0, 0, 0, 0]), 250_125);
+    assert_eq!(charge(&said, &[(2, 2_000)]), 0);
+    assert_eq!(charge(&said, &[(2, 2_001)]), 250_125);
     // Kinds 4, 5 and 7 are never charged; 6 not on an exempt repair day.
-    assert_eq!(charge(&said, [0, 0, 9_000, 9_000, 0, 9_000]), 0);
-    assert_eq!(charge(&said, [0, 0, 0, 0, 3_000, 0]), 375_000);
+    assert_eq!(charge(&said, &[(4, 9_000), (5, 9_000), (7, 9_000)]), 0);
+    assert_eq!(charge(&said, &[(6, 3_000)]), 375_000);
     said.repair = 1;
-    assert_eq!(charge(&said, [0, 0, 0, 0, 3_000, 0]), 0);
+    assert_eq!(charge(&said, &[(6, 3_000)]), 0);
 }
 
 #[test]
@@ -110,11 +111,11 @@ fn refund() {
         ..UnitRecord::default()
     };
     assert_eq!(declaration_limit(&sheet, said.power), 123_000);
-    let refund = items::refund(&sheet, &unit, &said, &[0, 0, 0, 0, 0, 4_000], RATE);
-    assert_eq!(refund, 600_000);
+    let refund = |list: &[(u64, u64)]| items::refund(&sheet, &unit, &said, &of_kinds(list), RATE);
+    assert_eq!(refund(&[(7, 4_000)]), 600_000);
     // d5 counts as d7 does, the other kinds do not.
-    let refund = items::refund(&sheet, &unit, &said, &[1, 1, 1, 4_000, 1, 0], RATE);
-    assert_eq!(refund, 600_000);
+    let others = [(2, 1), (3, 1), (4, 1), (5, 4_000), (6, 1), (8, 1)];
+    assert_eq!(refund(&others), 600_000);
 }
 
 #[test]

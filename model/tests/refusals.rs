@@ -105,7 +105,7 @@ fn record_lines() {
         (10, b"since=745\n", 2),
         (10, b"since=0\n", 2),
         (11, b"repair=2\n", 2),
-        (12, b"spans=60:8:0:0\n", 2),
+        (12, b"spans=60:9:0:0\n", 2),
         (12, b"spans=60:1:0:0,\n", 2),
         (12, b"spans=61:1:0:0\n", 2),
         (12, b"spans=60:1:0\n", 2),

@@ -134,7 +134,9 @@ fn timer(list: &CallList) -> impl FnMut(Side) -> f64 + '_ {
         timed(|| {
             match side {
                 Side::Product => product::calls(black_box(&given), &mut written),
-                Side::Model(checks) => numbers::calls(black_box(&given), checks, &mut written),
+                Side::Model(checks) => {
+                    numbers::calls(black_box(&given), checks, &mut written);
+                }
             }
             written.count
         })

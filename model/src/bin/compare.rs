@@ -5,9 +5,10 @@
 //! compare [SEED [DAYS [LISTS [LONG [THREADS]]]]]
 
 use model::generate::{self, CallList};
-use model::ledger::Checks;
+use model::ledger::{Checks, Ledger};
 use model::numbers::{self, Given, Lengths, Written, ANSWER, POSTING};
 use model::random::Random;
+use model::rules::{self, RULES};
 use model::{product, shrink, statement, HOURS, ITEMS, UNITS};
 use std::collections::BTreeMap;
 use std::process::ExitCode;
@@ -20,7 +21,8 @@ const REACHED: [u64; 17] = [
     1, 2, 3, 4, 10, 11, 20, 21, 22, 23, 24, 31, 32, 33, 40, 41, 42,
 ];
 
-/// How often each of them has to be seen in a run of the usual size.
+/// How often each of them, and each of the rules, has to be seen in a run of
+/// the usual size.
 const ENOUGH: u64 = 1_000;
 
 /// Seed, days, lists, long lists, threads.
@@ -94,6 +96,7 @@ struct Seen {
     cases: u64,
     accepted: u64,
     refused: BTreeMap<u64, u64>,
+    rules: rules::Times,
 }
 
 impl Seen {
@@ -115,38 +118,50 @@ impl Seen {
         for (number, times) in other.refused {
             *self.refused.entry(number).or_default() += times;
         }
+        for (rule, times) in self.rules.iter_mut().zip(other.rules) {
+            *rule += times;
+        }
     }
 }
 
 /// Prints what was seen of days, lists and long lists; tells whether each
-/// number was seen often enough.
+/// number and each rule was seen often enough.
 fn report(seen: &[Seen; 3]) -> bool {
-    let line = |name: &str, of: &dyn Fn(&Seen) -> u64| {
-        let [days, lists, long] = [of(&seen[0]), of(&seen[1]), of(&seen[2])];
-        println!("{name:<12} {days:>10} {lists:>10} {long:>10}");
-        days + lists + long
-    };
     println!(
-        "{:<12} {:>10} {:>10} {:>10}",
+        "{:<20} {:>10} {:>10} {:>10}",
         "", "days", "lists", "long lists"
     );
-    line("cases agree", &|seen| seen.cases);
-    line("accepted", &|seen| seen.accepted);
+    line("cases agree", seen.each_ref().map(|seen| seen.cases));
+    line("accepted", seen.each_ref().map(|seen| seen.accepted));
     let mut numbers = REACHED.to_vec();
     let others = seen.iter().flat_map(|seen| seen.refused.keys());
     numbers.extend(others.filter(|number| !REACHED.contains(number)));
     let mut few = Vec::new();
-    for number in numbers {
-        if line(&format!("refused {number}"), &|seen| seen.times(number)) < ENOUGH {
-            few.push(number);
+    let mut counted = |name: &str, times: [u64; 3]| {
+        if line(name, times) < ENOUGH {
+            few.push(name.to_string());
         }
+    };
+    for number in numbers {
+        let times = seen.each_ref().map(|seen| seen.times(number));
+        counted(&format!("refused {number}"), times);
+    }
+    for (at, (name, _)) in RULES.iter().enumerate() {
+        counted(name, seen.each_ref().map(|seen| seen.rules[at]));
     }
     if few.is_empty() {
-        println!("each number was seen {ENOUGH} times or more");
+        println!("each number and rule was seen {ENOUGH} times or more");
     } else {
-        println!("seen fewer than {ENOUGH} times: {few:?}");
+        println!("seen fewer than {ENOUGH} times: {}", few.join(", "));
     }
     few.is_empty()
+}
+
+/// Prints a line of the report; gives the sum of its numbers.
+fn line(name: &str, times: [u64; 3]) -> u64 {
+    let [days, lists, long] = times;
+    println!("{name:<20} {days:>10} {lists:>10} {long:>10}");
+    days + lists + long
 }
 
 // ---- cases
@@ -168,6 +183,8 @@ struct Worker {
     out: Vec<u8>,
     by_model: Written,
     by_product: Written,
+    /// What the calls led to in the model.
+    ledger: Option<Ledger>,
 }
 
 impl Worker {
@@ -177,6 +194,7 @@ impl Worker {
             out: vec![0; product::STATEMENT],
             by_model: Written::default(),
             by_product: Written::default(),
+            ledger: None,
         }
     }
 }
@@ -253,10 +271,13 @@ fn a_day(random: &mut Random) -> (Vec<u8>, usize) {
 fn day_agrees(random: &mut Random, worker: &mut Worker) -> bool {
     let (text, room) = a_day(random);
     let outcome = statement::carry_out(&text, Checks::Once);
-    worker.seen.count(match &outcome {
-        Ok(_) => 0,
-        Err(refusal) => u64::from(refusal.number),
-    });
+    match &outcome {
+        Ok(ledger) => {
+            worker.seen.count(0);
+            rules::count(ledger, &mut worker.seen.rules);
+        }
+        Err(refusal) => worker.seen.count(u64::from(refusal.number)),
+    }
     let printed = statement::print_outcome(&outcome);
     product_prints(&text, &printed, &mut worker.out[..room])
 }
@@ -326,6 +347,9 @@ fn list_agrees(list: &List, worker: &mut Worker) -> bool {
         }
         number => worker.seen.count(number),
     }
+    if let Some(ledger) = &worker.ledger {
+        rules::count(ledger, &mut worker.seen.rules);
+    }
     agrees
 }
 
@@ -343,7 +367,7 @@ fn run_both((list, lengths): &List, worker: &mut Worker) -> bool {
         written.fit(lengths);
         written.fill();
     }
-    numbers::calls(&given, Checks::Once, &mut worker.by_model);
+    worker.ledger = numbers::calls(&given, Checks::Once, &mut worker.by_model);
     product::calls(&given, &mut worker.by_product);
     worker.by_model == worker.by_product
 }

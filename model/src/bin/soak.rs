@@ -1,12 +1,13 @@
 //! Runs random days and lists of calls through the model alone, counts how
-//! often each refusal number and acceptance was seen, and checks each ledger
-//! by other ways (`check`).
+//! often each refusal number, acceptance and rule (`rules`) was seen, and
+//! checks each ledger by other ways (`check`).
 //!
 //! soak [SEED [DAYS [LISTS [LONG]]]]: LISTS texts of calls and as many lists
 //! in numbers are run, and LONG lists that fill the longest journal.
 
 use model::ledger::{self, Answer, Checks, Ledger};
 use model::random::Random;
+use model::rules::{self, RULES};
 use model::sheet::Sheet;
 use model::{check, generate, replay, statement};
 use std::collections::BTreeMap;
@@ -20,6 +21,7 @@ struct Seen {
     bytes: u64,
     accepted: u64,
     refused: BTreeMap<u8, u64>,
+    rules: rules::Times,
     making: Duration,
     running: Duration,
 }
@@ -37,6 +39,15 @@ impl Seen {
         for (number, count) in &self.refused {
             println!("  refused {number}: {count}");
         }
+        for ((name, _), count) in RULES.iter().zip(self.rules) {
+            println!("  {name}: {count}");
+        }
+    }
+
+    /// Checks a ledger and counts the rules that it shows.
+    fn ledger(&mut self, ledger: &Ledger) -> Result<(), String> {
+        rules::count(ledger, &mut self.rules);
+        check::ledger(ledger)
     }
 
     fn refuse(&mut self, number: u8) {
@@ -115,7 +126,7 @@ fn days(seed: u64, count: u64) -> Result<(), String> {
         match &outcome {
             Ok(ledger) => {
                 seen.accepted += 1;
-                check::ledger(ledger).map_err(problem)?;
+                seen.ledger(ledger).map_err(problem)?;
             }
             Err(refusal) => seen.refuse(refusal.number),
         }
@@ -144,7 +155,7 @@ fn call_texts(seed: u64, count: u64) -> Result<(), String> {
         seen.replayed(&printed);
         let problem = |why: String| format!("seed {seed} call text {case}: {why}");
         if let Some(ledger) = &ledger {
-            check::ledger(ledger).map_err(problem)?;
+            seen.ledger(ledger).map_err(problem)?;
         }
         if replay::carry_out(&text, places, Checks::EveryCall).0 != printed {
             return Err(problem(
@@ -195,7 +206,7 @@ fn run_list(list: &generate::CallList, seen: &mut Seen) -> Result<(), String> {
         Err(refusal) => seen.answer(&Answer::Refused(refusal)),
         Ok((answers, ledger)) => {
             answers.iter().for_each(|answer| seen.answer(answer));
-            check::ledger(&ledger)?;
+            seen.ledger(&ledger)?;
             check::calls(&list.groups, &answers, &ledger)?;
             let again = run(Checks::EveryCall).map(|(answers, _)| answers);
             if again != Ok(answers) {

@@ -2,7 +2,7 @@
 #![allow(dead_code)]
 
 use model::generate::{put_record, put_sheet};
-use model::record::{Record, Span, Spans, UnitRecord};
+use model::record::{part, Record, Span, Spans, UnitRecord, KINDS};
 use model::sheet::{Offer, Sheet, UnitSheet};
 use model::{HOURS, UNITS};
 
@@ -95,6 +95,15 @@ pub fn spans(list: &[(u64, u64, u64, u64)]) -> Spans {
         });
     }
     spans
+}
+
+/// Proportions or deviations from (kind, kWh), 0 for other kinds.
+pub fn of_kinds(list: &[(u64, u64)]) -> [u64; KINDS] {
+    let mut parts = [0; KINDS];
+    for &(kind, kwh) in list {
+        parts[part(kind)] = kwh;
+    }
+    parts
 }
 
 pub fn sheet_text(sheet: &Sheet) -> Vec<u8> {
