@@ -4,14 +4,12 @@ use mathlib.Core.Bool.{Bool, true, false}
 use Prim.Native.Nat.{ℕ, _+_, _*_, _-_, _≤_, _<_}
 use native.Mathlib.Nat.{mul-le-mul}
 use native.Mathlib.Omega.{arith}
-use lib.ListN.{getD}
-use Rattle.finite.specs.Finite.{sum}
 use Rattle.finite.proofs.Sums.{sum-le, sum-mul, sum-has}
 use Rattle.energy.specs.declared.GrossKwh.{GrossKwh}
 use Rattle.energy.specs.declared.NetKwh.{NetKwh}
 use Rattle.energy.proofs.Laws.{pay-most}
 use Rattle.formulas.specs.declared.Deviations.{Deviations}
-use Rattle.formulas.specs.Items.{kinds, noDeviation, deviationAt, energyPay, availability, declarationCeiling, refundKwh, refund, weightedPart, weighted, drawnPay}
+use Rattle.formulas.specs.Items.{kinds, deviationAt, wholeDeviation, energyPay, availability, declarationCeiling, refundKwh, refund, weightedPart, weighted, drawnPay}
 use Rattle.formulas.proofs.Weights.{part-most}
 
 -- item 1: 10^7 a grain are a Rial a grain
@@ -36,9 +34,9 @@ ceiling-most true power = omega arith
 ceiling-most false power = omega arith
 
 -- item 4: the deviation of each kind, and W, which is at most ten times the deviation
-module _ (d : Deviations) (most : ℕ) (split : sum kinds (λ i. getD (d .kwh) i noDeviation .0) ≤ most) where
-  pub deviation-most : (i : ℕ) → i < kinds → getD (d .kwh) i noDeviation .0 ≤ most
-  deviation-most i l = omega (arith, sum-has kinds i (λ i. getD (d .kwh) i noDeviation .0) l)
+module _ (d : Deviations) (most : ℕ) (split : wholeDeviation d ≤ most) where
+  pub deviation-most : (j : ℕ) → j < kinds → deviationAt d j .0 ≤ most
+  deviation-most j l = omega (arith, sum-has kinds j (λ j. deviationAt d j .0) l)
 
   pub weighted-most : (repair : ℕ) → weighted d repair ≤ 10 * most
   unfolding weighted

@@ -31,30 +31,13 @@ deviationAt d j = getD (d .kwh) j noDeviation
 abbrev pub deviationOf : Deviations → ℕ → NetKwh
 deviationOf d kind = deviationAt d (kind - firstKind)
 
+-- of all kinds together
+abbrev pub wholeDeviation : Deviations → ℕ
+wholeDeviation d = sum kinds (λ j. deviationAt d j .0)
+
 -- for the code: none is over 10^9
 abbrev pub Bounded : Deviations → Type 0
 Bounded d = (j : ℕ) → j < kinds → deviationAt d j .0 ≤ 1000000000
-
--- How each kind is charged, from kind 2 on: "W = 10 d2 + 5 d3 + 10 (1 − repair) d6", and 02, wish 1: "W gains 3 × d8". A kind is a row:
--- the tenths of its deviation that W takes, and whether `repair` exempts it. `counted-is` and `weighted-is` (proofs/Laws.antt) say that
--- q and W are the documents' sums.
-unfoldable pub kindWeights : List KindWeight
-kindWeights =
-    record { tenths = 10; exempt = false }
-    ∷ record { tenths = 5; exempt = false }
-    ∷ record { tenths = 0; exempt = false }
-    ∷ record { tenths = 0; exempt = false }
-    ∷ record { tenths = 10; exempt = true }
-    ∷ record { tenths = 0; exempt = false }
-    ∷ record { tenths = 3; exempt = false }
-    ∷ []
-
-unfoldable pub kindWeight : ℕ → KindWeight
-kindWeight j = getD kindWeights j (record { tenths = 0; exempt = false })
-
--- "(1 − repair) × d6": what counts of a deviation whose kind `repair` exempts; of the others, all
-unfoldable pub countedAt : Deviations → ℕ → ℕ → ℕ
-countedAt d repair j = cond (kindWeight j .exempt) ((1 - repair) * deviationAt d j .0) (deviationAt d j .0)
 
 -- "Magnitudes are rounded down, items 3 to 5 then negated"
 abbrev pub paid : ℕ → ℤ
@@ -97,6 +80,27 @@ refundKwh declared real d allowed = record { 0 = max (capabilityShort declared r
 
 unfoldable pub refund : NetKwh → NetKwh → Deviations → NetKwh → ℕ → ℕ → ℕ
 refund declared real d allowed cpf bar = payOf (refundKwh declared real d allowed) cpf bar
+
+-- How the kinds 2 to 8 are charged: "W = 10 d2 + 5 d3 + 10 (1 − repair) d6", and 02, wish 1: "W gains 3 × d8". A kind is a row: the tenths
+-- of its deviation that W takes, and whether `repair` exempts it. `counted-is` and `weighted-is` (proofs/Weights.antt) say that q and W are
+-- the documents' sums.
+unfoldable pub kindWeights : List KindWeight
+kindWeights =
+    record { tenths = 10; exempt = false }
+    ∷ record { tenths = 5; exempt = false }
+    ∷ record { tenths = 0; exempt = false }
+    ∷ record { tenths = 0; exempt = false }
+    ∷ record { tenths = 10; exempt = true }
+    ∷ record { tenths = 0; exempt = false }
+    ∷ record { tenths = 3; exempt = false }
+    ∷ []
+
+unfoldable pub kindWeight : ℕ → KindWeight
+kindWeight j = getD kindWeights j (record { tenths = 0; exempt = false })
+
+-- "(1 − repair) × d6": what counts of a deviation whose kind `repair` exempts; of the others, all
+unfoldable pub countedAt : Deviations → ℕ → ℕ → ℕ
+countedAt d repair j = cond (kindWeight j .exempt) ((1 - repair) * deviationAt d j .0) (deviationAt d j .0)
 
 -- "4. Test: .. q = d2 + d3 + (1 − repair) × d6", and 02, wish 1: "q gains d8": what counts of the kinds that have a weight
 abbrev pub countedPart : Deviations → ℕ → ℕ → ℕ

@@ -1,7 +1,7 @@
 // The arithmetic of a unit's five items, in Rial: the season, the ceiling of a declaration, each item's magnitude, and its sign.
 ghost use mathlib.Core.Path.{_≡_};
 ghost use Prim.Native.Nat.{_+_, _*_, _-_, _^_, _≤_, _<_, min};
-ghost use Rattle.formulas.specs.Items.{firstKind, kinds, deviationAt, deviationOf, Bounded, kindWeight, countedAt, countedPart, inOrder, inSeason, declarationCeiling, energyPay, availability, refundKwh, refund as «the_refund», countedDeviation, isCharged, weighted as «the_weighted», baseCharge, growth as «the_growth», hoursCounted, chargeOf, NearExact, drawnPay, paid as «the_paid», owed as «the_owed»};
+ghost use Rattle.formulas.specs.Items.{firstKind, kinds, deviationOf, Bounded, kindWeight, countedAt, countedPart, inOrder, inSeason, declarationCeiling, energyPay, availability, refundKwh, refund as «the_refund», countedDeviation, isCharged, weighted as «the_weighted», baseCharge, growth as «the_growth», hoursCounted, chargeOf, NearExact, drawnPay, paid as «the_paid», owed as «the_owed»};
 use energy::GrossKwh;
 use energy::HubGrains;
 use energy::NetKwh;
@@ -12,58 +12,6 @@ pub const KINDS: usize = 7;
 // A unit's deviation by kind, from kind 2 on, in net kWh at the gate.
 pub struct Deviations {
     pub kwh: [NetKwh; KINDS],
-}
-
-// How a kind is charged: the tenths of its deviation that W takes, 0 where it is not charged, and whether `repair` exempts it.
-pub struct KindWeight {
-    pub tenths: u64,
-    pub exempt: bool,
-}
-
-// A row for each kind, 2 to 8.
-const KIND_WEIGHTS: [KindWeight; KINDS] = [
-    // kind 2
-    KindWeight {
-        tenths: 10,
-        exempt: false,
-    },
-    // kind 3
-    KindWeight {
-        tenths: 5,
-        exempt: false,
-    },
-    // kind 4
-    KindWeight {
-        tenths: 0,
-        exempt: false,
-    },
-    // kind 5
-    KindWeight {
-        tenths: 0,
-        exempt: false,
-    },
-    // kind 6
-    KindWeight {
-        tenths: 10,
-        exempt: true,
-    },
-    // kind 7
-    KindWeight {
-        tenths: 0,
-        exempt: false,
-    },
-    // kind 8
-    KindWeight {
-        tenths: 3,
-        exempt: false,
-    },
-];
-
-fn kind_weight(j: usize) -> KindWeight
-    requires { ⌜ j < kinds ⌝ }
-    ensures { λ r. ⌜ r ≡ kindWeight j ⌝ }
-{
-    KIND_WEIGHTS[j]
 }
 
 // The deviation of a kind.
@@ -167,6 +115,58 @@ pub fn refund(
     ensures { λ r. ⌜ r ≡ «the_refund» declared real d allowed cpf bar ⌝ }
 {
     energy::pay_of(refund_kwh(declared, real, d, allowed), cpf, bar)
+}
+
+// How a kind is charged: the tenths of its deviation that W takes, 0 where it is not charged, and whether `repair` exempts it.
+struct KindWeight {
+    tenths: u64,
+    exempt: bool,
+}
+
+// A row for each kind, 2 to 8.
+const KIND_WEIGHTS: [KindWeight; KINDS] = [
+    // kind 2
+    KindWeight {
+        tenths: 10,
+        exempt: false,
+    },
+    // kind 3
+    KindWeight {
+        tenths: 5,
+        exempt: false,
+    },
+    // kind 4
+    KindWeight {
+        tenths: 0,
+        exempt: false,
+    },
+    // kind 5
+    KindWeight {
+        tenths: 0,
+        exempt: false,
+    },
+    // kind 6
+    KindWeight {
+        tenths: 10,
+        exempt: true,
+    },
+    // kind 7
+    KindWeight {
+        tenths: 0,
+        exempt: false,
+    },
+    // kind 8
+    KindWeight {
+        tenths: 3,
+        exempt: false,
+    },
+];
+
+fn kind_weight(j: usize) -> KindWeight
+    requires { ⌜ j < kinds ⌝ }
+    ensures { λ r. ⌜ r ≡ kindWeight j ⌝ }
+{
+    KIND_WEIGHTS[j]
 }
 
 // What counts of the deviation at index j: nothing on a repair day that exempts its kind.

@@ -23,7 +23,7 @@ use Rattle.record.specs.declared.Span.{Span}
 use Rattle.record.specs.declared.UnitRecord.{UnitRecord}
 use Rattle.record.specs.Spans.{countedKind, spanAt, spanCount}
 use Rattle.record.specs.InRange.{SpanInRange, UnitInRange}
-use Rattle.formulas.specs.Items.{firstKind, kinds, noDeviation}
+use Rattle.formulas.specs.Items.{firstKind, kinds, noDeviation, deviationAt, wholeDeviation}
 use Rattle.settlement.specs.Deviation.{shortMinutes, countedAs, proportion, proportions, deviationsOf}
 use Rattle.settlement.specs.Ranges.{SplitReady}
 
@@ -125,7 +125,7 @@ module _ (own : ℕ) (u : UnitRecord) (h : UnitInRange u) where
       )
 
   -- the parts are the shares, and add up as they do
-  parts : sum kinds (λ i. getD (deviationsOf own u .kwh) i noDeviation .0) ≡ sum kinds (λ i. getD (shares (proportions own u) (u .deviation .0)) i 0)
+  parts : wholeDeviation (deviationsOf own u) ≡ sum kinds (λ i. getD (shares (proportions own u) (u .deviation .0)) i 0)
   unfolding deviationsOf
   parts =
       let part : ℕ → NetKwh = λ j. record { 0 = getD (shares (proportions own u) (u .deviation .0)) j 0 } in
@@ -133,10 +133,10 @@ module _ (own : ℕ) (u : UnitRecord) (h : UnitInRange u) where
       (λ i l. ap (λ (k : NetKwh). k .0) (getD-tabulate kinds part i noDeviation l))
 
   -- to no more than the deviation
-  pub split-most : sum kinds (λ i. getD (deviationsOf own u .kwh) i noDeviation .0) ≤ u .deviation .0
+  pub split-most : wholeDeviation (deviationsOf own u) ≤ u .deviation .0
   split-most = go (decLt 0 (sumOf (proportions own u)))
     where
-      go : Dec (0 < sumOf (proportions own u)) → sum kinds (λ i. getD (deviationsOf own u .kwh) i noDeviation .0) ≤ u .deviation .0
+      go : Dec (0 < sumOf (proportions own u)) → wholeDeviation (deviationsOf own u) ≤ u .deviation .0
       go (yes some) = omega (arith, parts, rw proportions-length at (shares-total (proportions own u) (u .deviation .0) some))
       go (no none) =
           let w = proportions own u in
@@ -148,11 +148,11 @@ module _ (own : ℕ) (u : UnitRecord) (h : UnitInRange u) where
           )
 
   -- to all of it where some sum is over 0, as refusal 33 sees to; a deviation of 0 has parts of 0
-  pub split-all : 0 < sumOf (proportions own u) → sum kinds (λ i. getD (deviationsOf own u .kwh) i noDeviation .0) ≡ u .deviation .0
+  pub split-all : 0 < sumOf (proportions own u) → wholeDeviation (deviationsOf own u) ≡ u .deviation .0
   split-all some = parts ∙ rw proportions-length at (shares-total (proportions own u) (u .deviation .0) some)
 
-  pub split-none : u .deviation .0 ≡ 0 → (i : ℕ) → i < kinds → getD (deviationsOf own u .kwh) i noDeviation .0 ≡ 0
-  split-none e i l = omega (arith, sum-has kinds i (λ i. getD (deviationsOf own u .kwh) i noDeviation .0) l, split-most)
+  pub split-none : u .deviation .0 ≡ 0 → (i : ℕ) → i < kinds → deviationAt (deviationsOf own u) i .0 ≡ 0
+  split-none e i l = omega (arith, sum-has kinds i (λ i. deviationAt (deviationsOf own u) i .0) l, split-most)
 
   pub split-ready : SplitReady (deviationsOf own u)
   split-ready = omega (arith, split-most, h .deviation)

@@ -4,7 +4,7 @@ use mathlib.Core.Bool.{Bool, true, cond}
 use mathlib.Core.List.{List}
 use Prim.Native.Nat.{ℕ, _/_, _%_, _≤_, _<_}
 use lib.ListN.{length, getD}
-use Rattle.finite.specs.Finite.{sum, tabulate, every}
+use Rattle.finite.specs.Finite.{tabulate, every}
 use Rattle.energy.specs.declared.HubKwh.{HubKwh}
 use Rattle.energy.specs.declared.HubGrains.{HubGrains}
 use Rattle.units.specs.Units.{memberAt, isLowest}
@@ -19,7 +19,7 @@ use Rattle.record.specs.InRange.{UnitInRange, InRange}
 use Rattle.formulas.specs.declared.Deviations.{Deviations}
 use Rattle.allocation.specs.declared.Plant.{Plant}
 use Rattle.allocation.specs.Allocation.{energies}
-use Rattle.formulas.specs.Items.{kinds, noDeviation, drawnPay}
+use Rattle.formulas.specs.Items.{wholeDeviation, drawnPay}
 use Rattle.settlement.specs.declared.Rates.{Rates}
 use Rattle.settlement.specs.declared.Amounts.{Amounts}
 use Rattle.settlement.specs.declared.HourSheet.{HourSheet}
@@ -56,7 +56,7 @@ pub record RatesReady (rates : Rates) : Type 0 where
 
 -- a split of at most 10^6 kWh
 abbrev pub SplitReady : Deviations → Type 0
-SplitReady d = sum kinds (λ i. getD (d .kwh) i noDeviation .0) ≤ 1000000
+SplitReady d = wholeDeviation d ≤ 1000000
 
 pub record UnitReady (own : ℕ) (offer : Offer) (commitment : HubKwh) (u : UnitRecord) (energy : HubGrains) : Type 0 where
   pub own-use : own ≤ 2000

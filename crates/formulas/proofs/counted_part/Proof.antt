@@ -1,6 +1,6 @@
 -- The two returns are the definition's two cases.
 -- Assumes nothing.
-use mathlib.Core.Path.{_≡_, sym, _∙_, ap}
+use mathlib.Core.Path.{sym, _∙_, ap}
 use borrow.Author.Tests.{eq-eqb, ne-eqb}
 use borrow.Author.Needs.{needs}
 use Rattle.formulas.specs.declared.KindWeight.{KindWeight}
