@@ -12,17 +12,13 @@ use Rattle.finite.specs.Finite.{sum, every}
 use Rattle.finite.proofs.Sums.{sum-most, sum-has}
 use Rattle.finite.proofs.Tests.{every-at}
 use Rattle.formulas.specs.declared.Deviations.{Deviations}
-use Rattle.formulas.specs.Items.{kinds, deviationAt, deviationOf, Bounded, kindWeights, kindWeight, countedAt, countedPart, countedDeviation, weightedPart, weighted}
+use Rattle.formulas.specs.Items.{kinds, deviationAt, Bounded, writtenQ, writtenW, kindWeights, kindWeight, countedAt, countedPart, countedDeviation, weightedPart, weighted}
 
--- 01: "q = d2 + d3 + (1 − repair) × d6"; 02, wish 1: "q gains d8"
-pub counted-is : (d : Deviations) (repair : ℕ)
-    → countedDeviation d repair .0 ≡ deviationOf d 2 .0 + deviationOf d 3 .0 + (1 - repair) * deviationOf d 6 .0 + deviationOf d 8 .0
+pub counted-is : (d : Deviations) (repair : ℕ) → countedDeviation d repair .0 ≡ writtenQ d repair
 unfolding countedDeviation countedAt kindWeight kindWeights sum
 counted-is d repair = omega arith
 
--- 01: "W = 10 d2 + 5 d3 + 10 (1 − repair) d6"; 02, wish 1: "W gains 3 × d8"
-pub weighted-is : (d : Deviations) (repair : ℕ)
-    → weighted d repair ≡ 10 * deviationOf d 2 .0 + 5 * deviationOf d 3 .0 + 10 * ((1 - repair) * deviationOf d 6 .0) + 3 * deviationOf d 8 .0
+pub weighted-is : (d : Deviations) (repair : ℕ) → weighted d repair ≡ writtenW d repair
 unfolding weighted countedAt kindWeight kindWeights sum
 weighted-is d repair = omega arith
 

@@ -81,9 +81,15 @@ refundKwh declared real d allowed = record { 0 = max (capabilityShort declared r
 unfoldable pub refund : NetKwh → NetKwh → Deviations → NetKwh → ℕ → ℕ → ℕ
 refund declared real d allowed cpf bar = payOf (refundKwh declared real d allowed) cpf bar
 
--- How the kinds 2 to 8 are charged: "W = 10 d2 + 5 d3 + 10 (1 − repair) d6", and 02, wish 1: "W gains 3 × d8". A kind is a row: the tenths
--- of its deviation that W takes, and whether `repair` exempts it. `counted-is` and `weighted-is` (proofs/Weights.antt) say that q and W are
--- the documents' sums.
+-- "4. Test: .. q = d2 + d3 + (1 − repair) × d6. .. W = 10 d2 + 5 d3 + 10 (1 − repair) d6"; 02, wish 1: "q gains d8 and W gains 3 × d8". First
+-- as they are written there, then by a table of the kinds; `counted-is` and `weighted-is` (proofs/Weights.antt) say that both are the same
+abbrev pub writtenQ : Deviations → ℕ → ℕ
+writtenQ d repair = deviationOf d 2 .0 + deviationOf d 3 .0 + (1 - repair) * deviationOf d 6 .0 + deviationOf d 8 .0
+
+abbrev pub writtenW : Deviations → ℕ → ℕ
+writtenW d repair = 10 * deviationOf d 2 .0 + 5 * deviationOf d 3 .0 + 10 * ((1 - repair) * deviationOf d 6 .0) + 3 * deviationOf d 8 .0
+
+-- the kinds 2 to 8, a row for each: the tenths of its deviation that W takes, and whether `repair` exempts it
 unfoldable pub kindWeights : List KindWeight
 kindWeights =
     record { tenths = 10; exempt = false }
@@ -98,11 +104,11 @@ kindWeights =
 unfoldable pub kindWeight : ℕ → KindWeight
 kindWeight j = getD kindWeights j (record { tenths = 0; exempt = false })
 
--- "(1 − repair) × d6": what counts of a deviation whose kind `repair` exempts; of the others, all
+-- what counts of a deviation: "(1 − repair) × d6" where `repair` exempts its kind, else all
 unfoldable pub countedAt : Deviations → ℕ → ℕ → ℕ
 countedAt d repair j = cond (kindWeight j .exempt) ((1 - repair) * deviationAt d j .0) (deviationAt d j .0)
 
--- "4. Test: .. q = d2 + d3 + (1 − repair) × d6", and 02, wish 1: "q gains d8": what counts of the kinds that have a weight
+-- q: what counts of the kinds that have a weight
 abbrev pub countedPart : Deviations → ℕ → ℕ → ℕ
 countedPart d repair j = cond (eqb (kindWeight j .tenths) 0) 0 (countedAt d repair j)
 

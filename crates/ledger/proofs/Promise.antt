@@ -16,14 +16,15 @@ use Rattle.finite.specs.Finite.{tabulate}
 use Rattle.finite.proofs.Tests.{and-left, and-right}
 use Rattle.finite.proofs.Tables.{length-tabulate, getD-tabulate, tabulate-same}
 use Rattle.units.specs.Units.{isMember, memberAt}
-use Rattle.units.proofs.Laws.{member}
+use Rattle.units.proofs.Laws.{member, place-lt}
+use Rattle.energy.specs.declared.HubGrains.{HubGrains}
 use Rattle.allocation.specs.Fill.{grainsAt}
 use Rattle.sheet.specs.declared.Sheet.{Sheet}
 use Rattle.sheet.specs.Ranges.{sheetHolds}
 use Rattle.record.specs.declared.Record.{Record}
 use Rattle.settlement.specs.Hour.{hourResult}
-use Rattle.settlement.proofs.Laws.{energy-length, hour-allocated}
-use Rattle.state.specs.Book.{commitmentAt, energyAt, hourCommitments, noGrains}
+use Rattle.settlement.proofs.Laws.{energy-length, hour-allocated, charge-near-exact}
+use Rattle.state.specs.Book.{commitmentAt, energyAt, amountAt, hourCommitments, noGrains}
 use Rattle.postings.specs.declared.Posting.{Posting}
 use Rattle.postings.specs.Journal.{postedHold, totalOf}
 use Rattle.postings.proofs.Totals.{total-nothing}
@@ -94,6 +95,19 @@ module _ (sheet : Sheet) (journal : List Posting) (calls : List Call) where
           ∙ (ap (λ (n : ℕ). energyFor sheet (l .standing n) (l .commitment n) k) back ∙ ap (λ (s : Kept). energyFor sheet s (l .commitment hour) k) e) in
           getD-tabulate 8 (energyAt (st .book) (hour - 1)) k noGrains b ∙ (λ i. record { 0 = grains i })
 
+  unit-energy : (hour : ℕ) (r : Record) (k : ℕ) → 1 ≤ hour → hour ≤ 24 → l .standing hour ≡ kept r → k < 8
+      → energyAt (st .book) (hour - 1) k ≡ getD (hourResult sheet r (hourHeld (l .commitment hour)) .energy) k noGrains
+  unfolding hourEnergies
+  unit-energy hour r k low high e b =
+      sym (getD-tabulate 8 (energyAt (st .book) (hour - 1)) k noGrains b) ∙ ap (λ (g : List HubGrains). getD g k noGrains) (hour-energies hour r low high e)
+
+  unit-amount : (hour : ℕ) (r : Record) (k i : ℕ) → 1 ≤ hour → hour ≤ 24 → l .standing hour ≡ kept r → k < 8 → i < 5
+      → amountAt (st .book) (hour - 1) k i ≡ amountFor sheet (kept r) (l .commitment hour) k i
+  unit-amount hour r k i low high e b c =
+      let back : hour - 1 + 1 ≡ hour = omega arith in
+      agree .amounts (hour - 1) k i (omega arith) b c
+      ∙ (ap (λ (n : ℕ). amountIn sheet l n k i) back ∙ ap (λ (s : Kept). amountFor sheet s (l .commitment hour) k i) e)
+
   hour-held : (hour : ℕ) → 1 ≤ hour → hour ≤ 24 → hourCommitments (st .book) (hour - 1) ≡ hourHeld (l .commitment hour)
   unfolding hourCommitments
   hour-held hour low high =
@@ -162,6 +176,11 @@ module _ (sheet : Sheet) (journal : List Posting) (calls : List Call) where
             let s : l .standing hour ≡ kept r = stood hour ∙ e in
             rw (hour-held hour low high, hour-energies hour r low high s)
             (hour-allocated sheet r (hourHeld (l .commitment hour)) (hour-ready sheet hour r (l .commitment hour) (ready .each hour r s)));
+        charges = λ hour r k low high e m.
+            let s : l .standing hour ≡ kept r = stood hour ∙ e in
+            let b = place-lt (sheet .units) k m in
+            rw (unit-energy hour r k low high s b, unit-amount hour r k 3 low high s b (omega arith))
+            (charge-near-exact sheet r (hourHeld (l .commitment hour)) (hour-ready sheet hour r (l .commitment hour) (ready .each hour r s)) k m);
         postings = posted;
         totals = total;
         in-ranges = fits;

@@ -13,8 +13,9 @@ use Rattle.sheet.specs.declared.Sheet.{Sheet}
 use Rattle.sheet.specs.Ranges.{sheetHolds}
 use Rattle.record.specs.declared.Record.{Record}
 use Rattle.settlement.specs.Hour.{plantOf}
+use Rattle.settlement.specs.Charge.{ChargeNear}
 use Rattle.state.specs.declared.Book.{Book}
-use Rattle.state.specs.Book.{commitmentAt, energyAt, hourCommitments}
+use Rattle.state.specs.Book.{commitmentAt, energyAt, amountAt, hourCommitments}
 use Rattle.postings.specs.declared.Posting.{Posting}
 use Rattle.postings.specs.Journal.{postedHold, totalOf}
 use Rattle.ledger.specs.Ledger.{Call, void, Kept, none, kept, Condition, Reply, emptyLedger, amountFor, conditionsOf, run}
@@ -61,6 +62,10 @@ pub record Demand (sheet : Sheet) (journal : List Posting) (calls : List Call) (
   -- costs at least as much before rounding
   pub energies : (hour : ℕ) (r : Record) → 1 ≤ hour → hour ≤ 24 → standing sheet calls replies hour ≡ kept r
       → Allocated (r .net) (r .reverse) (plantOf sheet r (hourCommitments (st .book) (hour - 1))) (hourEnergies (st .book) (hour - 1))
+  -- where a unit's failed test is charged in such an hour, the charge that the book holds never exceeds the exact product of W, and falls short of
+  -- it by under 130 Rial
+  pub charges : (hour : ℕ) (r : Record) (k : ℕ) → 1 ≤ hour → hour ≤ 24 → standing sheet calls replies hour ≡ kept r → memberAt (sheet .units) k ≡ true
+      → ChargeNear sheet r k (energyAt (st .book) (hour - 1) k) (amountAt (st .book) (hour - 1) k 3)
   -- for each unit and item the journal adds up to the formulas' amounts over the hours that stand, each from its last accepted record
   pub postings : (k i : ℕ) → memberAt (sheet .units) k ≡ true → i < 5
       → totalOf (k + 1) (i + 1) (take (st .count) (st .journal))

@@ -4,12 +4,13 @@
 use mathlib.Core.Path.{_≡_, refl, sym, _∙_, ap, subst}
 use mathlib.Core.Bool.{Bool, true, false, cond}
 use mathlib.Core.List.{List, [], _∷_}
-use Prim.Native.Nat.{ℕ, _+_, _*_, _-_, _≤_, _<_}
+use Prim.Native.Nat.{ℕ, _-_, _≤_, _<_}
 use native.Mathlib.Omega.{arith}
 use lib.IntN.{pos, natAbs}
 use lib.ListN.{length, getD}
 use Rattle.finite.specs.Finite.{sum, tabulate}
 use Rattle.finite.proofs.Tables.{length-tabulate, getD-tabulate}
+use Rattle.energy.specs.declared.NetKwh.{NetKwh}
 use Rattle.energy.specs.declared.HubKwh.{HubKwh}
 use Rattle.energy.specs.declared.HubGrains.{HubGrains}
 use Rattle.energy.specs.Energy.{netOf}
@@ -25,12 +26,13 @@ use Rattle.record.specs.InRange.{InRange}
 use Rattle.allocation.specs.Fill.{grainsAt}
 use Rattle.allocation.specs.Allocation.{ceilings, energies, plantEnergy, Allocated}
 use Rattle.allocation.proofs.Laws.{energies-length, energies-allocated, energy-none}
-use Rattle.formulas.specs.Items.{deviationOf, owed, declarationCeiling, countedDeviation, isCharged, hoursCounted, NearExact, drawnPay}
+use Rattle.formulas.specs.Items.{owed, declarationCeiling, writtenQ, countedDeviation, drawnPay}
 use Rattle.formulas.proofs.Laws.{drawn-most}
-use Rattle.formulas.proofs.Weights.{weighted-is}
+use Rattle.formulas.proofs.Weights.{counted-is, weighted-is}
 use Rattle.settlement.specs.declared.Amounts.{Amounts}
 use Rattle.settlement.specs.declared.HourResult.{HourResult}
 use Rattle.settlement.specs.Deviation.{deviationsOf}
+use Rattle.settlement.specs.Charge.{ChargeNear}
 use Rattle.settlement.specs.Hour.{noAmounts, pastAmounts, amountAt, ratesOf, energyItem, availabilityItem, refundItem, testItem, drawnAt, amountsOf, plantOf, amountsAt, hourResult, hour-is}
 use Rattle.settlement.specs.Ranges.{HourRead, HourReady}
 use Rattle.settlement.proofs.Ready.{ownAt, hourOffer, plant-holds, hour-most, sheet-unit-in, rates-ready, drawn-ready, unit-ready}
@@ -150,19 +152,16 @@ module _ (sheet : Sheet) (r : Record) (commitment : List HubKwh) where
             (unit-ready sheet r commitment h k m) (drawnAt sheet r k) (drawn-at-most k) i))
         by false m = subst of (sym (amounts-none k l m)) (none-most i)
 
-    -- where item 4 is charged, its size never exceeds the exact product of W = 10 d2 + 5 d3 + 10 (1 − repair) d6 + 3 d8, and falls short of it by
-    -- under 130 Rial (02, wish 1: "The under-130-Rial statement holds with the new W.")
+    -- where item 4 is charged, its size never exceeds the exact product, and falls short of it by under 130 Rial
     pub charge-near-exact : (k : ℕ) → memberAt (sheet .units) k ≡ true
-        → let rates = ratesOf sheet (r .hour) in
-        let u = recordUnit r k in
-        let d = deviationsOf (ownAt sheet k) u in
-        isCharged (countedDeviation d (u .repair)) (u .measured) (u .reading) (getD (hourResult sheet r commitment .energy) k (record { 0 = 0 })) (rates .loss) ≡ true
-        → NearExact (10 * deviationOf d 2 .0 + 5 * deviationOf d 3 .0 + 10 * ((1 - u .repair) * deviationOf d 6 .0) + 3 * deviationOf d 8 .0)
-        (rates .cpf) (rates .bar) (hoursCounted (u .since)) (natAbs (amountAt (hourResult sheet r commitment .amounts) k 3))
+        → ChargeNear sheet r k (getD (hourResult sheet r commitment .energy) k (record { 0 = 0 })) (amountAt (hourResult sheet r commitment .amounts) k 3)
+    unfolding ChargeNear
     charge-near-exact k m t =
         let e = ap (λ s. natAbs (getD s 3 (pos 0))) (amount-is k m) in
         let u = recordUnit r k in
-        rw (e, energy-is, sym (weighted-is (deviationsOf (ownAt sheet k) u) (u .repair)))
+        let d = deviationsOf (ownAt sheet k) u in
+        let q : _≡_ {A = NetKwh} (record { 0 = writtenQ d (u .repair) }) (countedDeviation d (u .repair)) = λ i. record { 0 = sym (counted-is d (u .repair)) i } in
+        rw (e, energy-is, sym (weighted-is d (u .repair)))
         (test-near (ratesOf sheet (r .hour)) (ownAt sheet k) (hourOffer sheet r k) (getD commitment k (record { 0 = 0 })) (recordUnit r k)
         (getD (energies (r .net) (r .reverse) (plantOf sheet r commitment)) k (record { 0 = 0 })) (rates-ready sheet r (h .read))
-        (unit-ready sheet r commitment h k m) (rw energy-is at t))
+        (unit-ready sheet r commitment h k m) (rw (energy-is, q) at t))

@@ -2,3 +2,4 @@ pub mod Deviation
 pub mod Hour
 pub mod Refusals
 pub mod Ranges
+pub mod Charge
