@@ -23,6 +23,7 @@ use Rattle.sheet.specs.declared.Sheet.{Sheet}
 use Rattle.sheet.specs.Ranges.{sheetHolds}
 use Rattle.record.specs.declared.Record.{Record}
 use Rattle.settlement.specs.Hour.{hourResult}
+use Rattle.settlement.specs.Charge.{ChargeNear}
 use Rattle.settlement.proofs.Laws.{energy-length, hour-allocated, charge-near-exact}
 use Rattle.state.specs.Book.{commitmentAt, energyAt, amountAt, hourCommitments, noGrains}
 use Rattle.postings.specs.declared.Posting.{Posting}
@@ -44,6 +45,11 @@ use Rattle.ledger.proofs.Posted.{run-sums, sums-open, sums-close}
 use Rattle.ledger.proofs.Ready.{Ready, run-ready}
 use Rattle.ledger.proofs.Settled.{hour-ready}
 use Rattle.ledger.proofs.Whole.{followed, empty-agrees, empty-ready, step-accepted, reply-of}
+
+-- the bound of a charge, by equal energies and amounts
+near-as : (sheet : Sheet) (r : Record) (k : ℕ) {energy its-energy : HubGrains} {item its-item : ℤ} → energy ≡ its-energy → item ≡ its-item
+    → ChargeNear sheet r k its-energy its-item → ChargeNear sheet r k energy item
+near-as sheet r k e i near = rw (e, i) near
 
 module _ (sheet : Sheet) (journal : List Posting) (calls : List Call) where
   room : ℕ
@@ -179,7 +185,7 @@ module _ (sheet : Sheet) (journal : List Posting) (calls : List Call) where
         charges = λ hour r k low high e m.
             let s : l .standing hour ≡ kept r = stood hour ∙ e in
             let b = place-lt (sheet .units) k m in
-            rw (unit-energy hour r k low high s b, unit-amount hour r k 3 low high s b (omega arith))
+            near-as sheet r k (unit-energy hour r k low high s b) (unit-amount hour r k 3 low high s b (omega arith))
             (charge-near-exact sheet r (hourHeld (l .commitment hour)) (hour-ready sheet hour r (l .commitment hour) (ready .each hour r s)) k m);
         postings = posted;
         totals = total;
