@@ -62,8 +62,8 @@ pub record Demand (sheet : Sheet) (journal : List Posting) (calls : List Call) (
   -- costs at least as much before rounding
   pub energies : (hour : ℕ) (r : Record) → 1 ≤ hour → hour ≤ 24 → standing sheet calls replies hour ≡ kept r
       → Allocated (r .net) (r .reverse) (plantOf sheet r (hourCommitments (st .book) (hour - 1))) (hourEnergies (st .book) (hour - 1))
-  -- where a unit's failed test is charged in such an hour, the charge that the book holds never exceeds the exact product of W, and falls short of
-  -- it by under 130 Rial
+  -- where a unit's failed test is charged in such an hour, the charge that the book holds never exceeds the exact product, and falls short of it
+  -- by under 130 Rial (01, Five items, 4; 02, wish 1: with the new W)
   pub charges : (hour : ℕ) (r : Record) (k : ℕ) → 1 ≤ hour → hour ≤ 24 → standing sheet calls replies hour ≡ kept r → memberAt (sheet .units) k ≡ true
       → ChargeNear sheet r k (energyAt (st .book) (hour - 1) k) (amountAt (st .book) (hour - 1) k 3)
   -- for each unit and item the journal adds up to the formulas' amounts over the hours that stand, each from its last accepted record

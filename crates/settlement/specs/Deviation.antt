@@ -34,7 +34,7 @@ proportions own u = tabulate kinds (λ j. proportion own u (firstKind + j))
 abbrev pub deviationsBy : List ℕ → Deviations
 deviationsBy numbers = record { kwh = tabulate kinds (λ j. record { 0 = getD numbers j 0 }) }
 
--- "`deviation` is split into d2..d7 in proportion to [these sums], by largest remainder (deviation 0: all 0), lower kind first"
--- (crate apportion: 0 has shares of 0)
+-- "`deviation` is split into d2..d7 in proportion to [these sums], by largest remainder (deviation 0: all 0), lower kind first" (crate
+-- apportion: 0 has shares of 0); 02, wish 1: "d8 joins the split of the deviation"
 unfoldable pub deviationsOf : ℕ → UnitRecord → Deviations
 deviationsOf own u = deviationsBy (shares (proportions own u) (u .deviation .0))
