@@ -24,7 +24,8 @@
 #define GOZALVEK_ANSWER 4
 #define GOZALVEK_POSTING 4
 
-/* Kinds of call; every other number is a void too. */
+/* Kinds of call; another number is refused with 10, as a void of hour 0, after
+ * 9 and 12. */
 #define GOZALVEK_TAKE 1
 #define GOZALVEK_RELEASE 2
 #define GOZALVEK_MOVE 3

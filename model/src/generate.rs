@@ -99,7 +99,8 @@ pub fn call_list(random: &mut Random) -> CallList {
     for group in &mut groups {
         match group.kind {
             4 | 5 => other_part(random, group, length),
-            6 => group.kind = *random.pick(&[6, 6, 0, 7, 256 + 1, u64::MAX]),
+            // A number that is no kind, beside an hour that may stand.
+            6 if random.percent(10) => group.kind = *random.pick(&[0, 7, 256 + 6, u64::MAX]),
             _ => {}
         }
         if random.percent(3) {

@@ -419,8 +419,9 @@ fn check_kwh(kwh: u64) -> Result<(), Refusal> {
 }
 
 /// A call in plain numbers; texts are parts of one text that the list of calls
-/// shares. Kinds 1 to 5 are take, release, move, settle, restate; every other
-/// number is void, so that each group means a call.
+/// shares. Kinds 1 to 6 are take, release, move, settle, restate, void. Another
+/// number is a void of hour 0, which is always refused: a wrong number never
+/// reopens the hour beside it.
 #[derive(Clone, Copy, Debug, Default, PartialEq, Eq)]
 pub struct Group {
     pub kind: u64,
@@ -471,7 +472,8 @@ impl Group {
                 text: text(),
                 start,
             },
-            _ => Call::Void { hour },
+            6 => Call::Void { hour },
+            _ => Call::Void { hour: 0 },
         }
     }
 }

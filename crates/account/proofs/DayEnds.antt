@@ -30,9 +30,9 @@ use Rattle.ledger.specs.declared.Decision.{Decision}
 use Rattle.ledger.specs.declared.Refusal.the-variants.{Text, SheetRange, BookRange, HourStands}
 use Rattle.ledger.specs.declared.Verdict.{Verdict}
 use Rattle.ledger.specs.declared.Verdict.the-variants.{Accepted as passes, Refused as fails}
-use Rattle.ledger.specs.Calls.{Row, row, verdict, isSettled, alwaysRows, bookFits, textRows, recordRows, requestRows, rowsOf, acceptedIn, recordedAt, placeAfter as placeBehind, byVerdict, refusedWith, decided, requestOf, plainRequest, recordRequest}
+use Rattle.ledger.specs.Calls.{Row, row, verdict, isSettled, alwaysRows, bookFits, textRows, recordRows, requestRows, rowsOf, acceptedIn, recordedAt, placeAfter as placeBehind, byVerdict, refusedWith, decided, plainRequest, recordRequest}
 use Rattle.ledger.specs.Requests.{callFor, partOf}
-use Rattle.journal.specs.Journal.{performed}
+use Rattle.single.specs.Journal.{performed}
 use Rattle.account.specs.declared.Due.{Due}
 use Rattle.account.specs.declared.Day.{Day}
 use Rattle.account.specs.declared.Next.the-variants.{Ends, Bad, Asks}
@@ -155,14 +155,14 @@ module _ (sheet : Sheet) (text : List ℕ) where
   unfolding performed callFor
   take-told r hour unit kwh e n h =
       take-answer sheet (r .day .book) hour unit kwh (r .day .count) _ _ n
-      (subst (λ (a : Asked). performed (r .list) (r .day .count) sheet (r .day .book) (requestOf sheet (callFor text a)) .outcome .answer ≡ Posted n) e h)
+      (subst (λ (a : Asked). performed (r .list) (r .day .count) sheet (r .day .book) (callFor text a) .outcome .answer ≡ Posted n) e h)
 
   settle-told : (r : Running) (at : ℕ) → r .day .asked ≡ settleAsked text at
       → let o = performedIn sheet text r .outcome in
       (o .answer ≡ Accepted → ⊥) × ((n : ℕ) → o .answer ≡ Posted n → at < o .place)
   unfolding performed callFor
   settle-told r at e =
-      subst (λ (a : Asked). let o = performed (r .list) (r .day .count) sheet (r .day .book) (requestOf sheet (callFor text a)) .outcome in
+      subst (λ (a : Asked). let o = performed (r .list) (r .day .count) sheet (r .day .book) (callFor text a) .outcome in
       (o .answer ≡ Accepted → ⊥) × ((n : ℕ) → o .answer ≡ Posted n → at < o .place)) (sym e) (
         settle-answer sheet (r .day .book) (partOf text 0 (length text)) at (r .day .count) _ _,
         settle-place sheet (r .day .book) (partOf text 0 (length text)) at (r .day .count) _ _,

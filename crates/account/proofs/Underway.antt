@@ -1,145 +1,160 @@
--- A day on the way to its end: each call comes to what its decision says where 12 does not hold, leaves fewer calls and the same end. The list of postings
--- is there in the law alone; the code keeps its count.
+-- A day on the way to its end, over some list of 2,000 places. From the empty book on 12 never comes up, so the call that is due is decided by its own rows; the
+-- engine leaves that decision's book, answer and place in its numbers. The call leaves fewer calls and the same end. The list is there in the law alone.
 -- Assumes nothing.
 use mathlib.Core.Path.{_≡_, refl, sym, ap, _∙_, subst}
 use mathlib.Core.Logic.{⊎-elim}
-use mathlib.Core.Bool.{Bool, true, false, cond, _&&_}
-use mathlib.Core.List.{List}
-use Prim.Native.Nat.{ℕ, suc, _+_, _-_, _<_}
+use mathlib.Core.Bool.{true}
+use mathlib.Core.List.{List, []}
+use Prim.Native.Nat.{ℕ, suc, _+_, _-_, _^_, _≤_, _<_}
 use native.Mathlib.Omega.{arith}
-use lib.Dec.{leb, eqb}
-use lib.ListN.{replicate, length-replicate}
+use lib.IntN.{ℤ}
+use lib.ListN.{length, replicate, length-replicate}
+use Rattle.finite.proofs.Tests.{and-left, and-right}
 use Rattle.sheet.specs.declared.Sheet.{Sheet}
-use Rattle.sheet.specs.Ranges.{sheetHolds}
-use Rattle.settlement.specs.Hour.{hourSheet}
-use Rattle.state.specs.declared.Book.{Book}
-use Rattle.state.specs.Book.{emptyBook, hourEntry, withHour}
-use Rattle.postings.specs.Journal.{noPosting}
+use Rattle.settlement.specs.declared.DayTerms.{DayTerms}
+use Rattle.state.specs.Book.{emptyBook}
+use Rattle.state.specs.Ranges.{bookHolds}
+use Rattle.state.proofs.Empty.{empty-sized}
+use Rattle.postings.specs.declared.Posting.{Posting}
+use Rattle.postings.specs.Journal.{noPosting, countHolds}
+use Rattle.postings.proofs.Counted.{count-most}
 use Rattle.ledger.specs.declared.Answer.{Answer}
-use Rattle.ledger.specs.declared.Answer.the-variants.{Accepted}
 use Rattle.ledger.specs.declared.Decision.{Decision}
-use Rattle.book.specs.declared.HourDecision.{HourDecision}
-use Rattle.ledger.specs.declared.Request.{Request}
-use Rattle.book.specs.declared.Shift.{Shift}
-use Rattle.ledger.specs.Calls.{decided, outcomeOf, requestOf}
+use Rattle.ledger.specs.Ledger.{Call as LedgerCall}
+use Rattle.ledger.specs.Numbers.{postedOf}
+use Rattle.ledger.specs.Calls.{State, requestOf, requestDecided, decidedOn, outcomeOf, ranFrom}
 use Rattle.ledger.specs.Requests.{callFor}
-use Rattle.book.specs.Commitments.{shiftIn, bookWith}
-use Rattle.book.specs.Hours.{postingPlace, knownIn, appliedTo}
-use Rattle.book.specs.Sound.{Known}
-use Rattle.book.proofs.Carried.{Told, accepted, refused, number-some, carried}
-use Rattle.book.proofs.Hours.{applied-known}
-use Rattle.book.proofs.Numbered.{posts-by}
-use Rattle.book.proofs.Well.{call-well}
-use Rattle.journal.specs.Journal.{performed}
-use Rattle.journal.proofs.Posted.{length-performed}
+use Rattle.ledger.proofs.Keeps.{Kept, carried-keeps, carried-long}
+use Rattle.ledger.proofs.Places.{decided-fits, decided-on}
+use Rattle.ledger.proofs.Promise.{promise}
+use Rattle.decisions.specs.declared.Call.{Call}
+use Rattle.decisions.specs.Calls.{decoded, callOf}
+use Rattle.decisions.proofs.Calls.{decoded-is}
+use Rattle.engine.specs.declared.Done.{Done}
+use Rattle.engine.specs.Table.{Table, bookIn, Long, Under, Ready, Matches, Carried}
+use Rattle.single.specs.Journal.{performed}
+use Rattle.single.proofs.Counts.{counts}
 use Rattle.account.specs.declared.Day.{Day}
 use Rattle.account.specs.declared.Due.{Due}
-use Rattle.account.specs.Day.{noneDue, dueAt, dayAt, dayWith, answeredBy, takenDue, dayAfter, Running, performedIn, turned, ranOut}
-use Rattle.account.specs.Reached.{Reached, Underway, decidedNext}
-use Rattle.account.proofs.Promised.{start-reached, turn-reached, reached-posted, reached-known}
+use Rattle.account.specs.Day.{dueAt, dayWith, answeredBy, dayAfter, Running, turned, ranOut, stateOf, begun, dayFrom}
+use Rattle.account.proofs.Promised.{turn-state}
 use Rattle.account.proofs.Turned.{left-by, ran-next, ran-end}
-
--- what is due after a take is what its answer says
-pub taken-is : (text : List ℕ) (after left place number : ℕ) (a : Answer) → Told a number → takenDue text after left number ≡ answeredBy text after left place a
-unfolding takenDue
-taken-is text after left place number a (accepted e f) = rw (e, f) refl
-taken-is text after left place number a (refused r e f) = rw (e, f, number-some r) refl
 
 pub answered-less : (text : List ℕ) (after left place : ℕ) (a : Answer) → 0 < left → answeredBy text after left place a .left < left
 answered-less text after left place a some = ⊎-elim (λ z. omega arith) (λ z. omega arith) (left-by text after left place a)
 
-pub taken-less : (text : List ℕ) (after left number : ℕ) → 0 < left → takenDue text after left number .left < left
-unfolding takenDue
-taken-less text after left number some = by (eqb number 0)
-  where
-    by : (t : Bool) → cond t (dueAt text after left) (noneDue number) .left < left
-    by true = answered-less text after left 0 Accepted some
-    by false = some
+module _ (sheet : Sheet) (text : List ℕ) (at : ℕ) where
+  -- with this list of places the calls that are left lead to the end of the day
+  pub record Stands (day : Day) : Type 0 where
+    pub list : List Posting
+    pub places : length list ≡ 2000
+    pub kept : Kept sheet (stateOf (record { list = list; day = day }))
+    pub ahead : ranOut sheet text (record { list = list; day = day }) .day ≡ dayFrom sheet text at
 
-pub under-first : (sheet : Sheet) (text : List ℕ) (at left : ℕ) (holds : Bool) → holds ≡ sheetHolds sheet
-    → Underway sheet text holds (dayAt text at left 0 emptyBook) (dayAt text at left 0 emptyBook)
-under-first sheet text at left holds e =
-    let list = replicate 2000 noPosting in
-    record {
-      list = list;
-      long = length-replicate 2000 noPosting;
-      reached =
-          subst (λ (t : Bool). Reached sheet t (record { list = list; day = dayAt text at left 0 emptyBook })) (sym e) (start-reached sheet text list at left);
-      ahead = refl;
-    }
+  -- the day in the numbers of the book, the count and what is due
+  pub record Underway (t : Table) (rows : List ℤ) (count : ℕ) (due : Due) : Type 0 where
+    pub stands : Stands (dayWith count (bookIn t) due)
+    pub long : Long t
+    pub rows-long : length rows ≡ 40
 
-module _ (sheet : Sheet) (text : List ℕ) (holds : Bool) (first day : Day) (u : Underway sheet text holds first day) where
-  abbrev run : Running
-  run = record { list = u .list; day = day }
+  first-stands : Stands (begun text at .day)
+  unfolding begun ranFrom
+  first-stands =
+      let list = replicate 2000 noPosting in
+      record {
+        list = list;
+        places = length-replicate 2000 noPosting;
+        kept = record { sized = empty-sized; fits = promise sheet list [] .in-ranges };
+        ahead = refl;
+      }
 
-  pub under-known : Known sheet holds (day .book) (day .count) 2000
-  under-known = subst (λ (n : ℕ). Known sheet holds (day .book) (day .count) n) (u .long) (reached-known sheet holds run (u .reached))
+  pub under-first : (t : Table) (rows : List ℤ) (due : Due) → bookIn t ≡ emptyBook → due ≡ dueAt text at (suc (length text)) → Long t → length rows ≡ 40
+      → Underway t rows 0 due
+  unfolding begun
+  under-first t rows due b e long rows-long =
+      let same : begun text at .day ≡ dayWith 0 (bookIn t) due = λ i. dayWith 0 (sym b i) (sym e i) in
+      record { stands = subst Stands same first-stands; long = long; rows-long = rows-long }
 
-  -- the call on the list comes to what it comes to by the count
-  outcome-is : performedIn sheet text run .outcome ≡ outcomeOf (decidedNext sheet text day 2000)
-  unfolding performed
-  outcome-is =
-      let q = requestOf sheet (callFor text (day .asked)) in
-      λ i. outcomeOf (decided sheet (day .book) q (day .count) (u .long i) (reached-posted sheet holds run (u .reached) i))
+  module _ (t : Table) (rows : List ℤ) (count : ℕ) (due : Due) (u : Underway t rows count due) where
+    abbrev day : Day
+    day = dayWith count (bookIn t) due
 
-  pub under-next : 0 < day .left → (d : Decision) → d ≡ decidedNext sheet text day 2000 → Underway sheet text holds first (dayAfter text day (outcomeOf d))
-  unfolding turned
-  under-next some d e =
-      let t = turned sheet text run in
-      let left : day .left ≡ suc (day .left - 1) = omega arith in
-      subst (Underway sheet text holds first) (ap (dayAfter text day) (outcome-is ∙ ap outcomeOf (sym e)))
-      (record {
-        list = t .list;
-        long = length-performed (u .list) (day .count) sheet (day .book) (requestOf sheet (callFor text (day .asked))) ∙ u .long;
-        reached = turn-reached sheet text holds run (u .reached);
-        ahead = ap (λ (r : Running). r .day) (ran-next sheet text run (day .left - 1) left) ∙ u .ahead;
-      })
+    abbrev list : List Posting
+    list = u .stands .list
 
-  pub under-end : day .left ≡ 0 → day ≡ ranOut sheet text (record { list = replicate 2000 noPosting; day = first }) .day
-  under-end none = sym (ap (λ (r : Running). r .day) (ran-end sheet text run none)) ∙ u .ahead
+    abbrev run : Running
+    run = record { list = list; day = day }
 
--- a take, release or move: `b` and `number` are the book and the number of its shift
-module _ (sheet : Sheet) (text : List ℕ) (holds : Bool) (first : Day) (count : ℕ) (book : Book) (due : Due) (u : Underway sheet text holds first (dayWith count book due)) (some : 0 < due .left) where
-  abbrev day : Day
-  day = dayWith count book due
+    pub under-end : due .left ≡ 0 → day ≡ dayFrom sheet text at
+    under-end none = sym (ap (λ (r : Running). r .day) (ran-end sheet text run none)) ∙ u .stands .ahead
 
-  abbrev shift : Shift
-  shift = shiftIn sheet book (due .asked)
+    book-fits : bookHolds sheet (bookIn t) ≡ true
+    book-fits = and-left (bookHolds sheet (bookIn t)) _ (u .stands .kept .fits)
 
-  pub take-next : (leb 1 (due .asked .kind) && leb (due .asked .kind) 3) ≡ true → (b : Book) (r : Shift) → b ≡ bookWith book (due .asked) r → r ≡ shift
-      → Underway sheet text holds first (dayWith count b (takenDue text (due .after) (due .left) (r .number)))
-  unfolding dayAfter
-  take-next commits b r b-is r-is =
-      let d = decidedNext sheet text day 2000 in
-      let c = carried sheet book count 2000 true text (due .asked) commits (under-known sheet text holds first day u .fits) in
-      let b-at = c .book-is ∙ sym (b-is ∙ ap (bookWith book (due .asked)) r-is) in
-      let due-at =
-      ap (takenDue text (due .after) (due .left)) (ap (λ (x : Shift). x .number) r-is) ∙ taken-is text (due .after) (due .left) (d .place) (shift .number) (d .answer) (c .told) in
-      subst (Underway sheet text holds first) (λ i. dayWith (c .same-count i) (b-at i) (sym due-at i)) (under-next sheet text holds first day u some d refl)
+    count-fits : countHolds count 2000 ≡ true
+    count-fits =
+        subst (λ (n : ℕ). countHolds count n ≡ true) (u .stands .places)
+        (and-left (countHolds count (length list)) _ (and-right (bookHolds sheet (bookIn t)) _ (u .stands .kept .fits)))
 
-  -- another call: `d` is decided by what the sheet and the book have of its hour
-  module _ (other : (leb 1 (due .asked .kind) && leb (due .asked .kind) 3) ≡ false) (d : HourDecision) where
-    abbrev q : Request
-    q = requestOf sheet (callFor text (due .asked))
+    module _ (terms : DayTerms) (offers : List ℕ) (under : Under sheet terms offers) where
+      pub ready-now : Ready terms offers t rows 0 count 2000
+      ready-now =
+          record { sheet = sheet; under = under; long = u .long; fits = book-fits; counted = count-fits; room = omega (arith, u .rows-long) }
 
-    abbrev decision : Decision
-    decision = appliedTo (sheet .units) book count (postingPlace q) d
+      abbrev c : LedgerCall
+      c = callFor text (due .asked)
 
-    module _ (d-is : d ≡ knownIn holds (hourSheet sheet (suc (postingPlace q))) (hourEntry book (postingPlace q)) q count 2000) where
-      decision-is : decision ≡ decidedNext sheet text day 2000
-      decision-is =
-          ap (appliedTo (sheet .units) book count (postingPlace q)) d-is
-          ∙ applied-known sheet holds book q count 2000 (under-known sheet text holds first day u) (call-well sheet (callFor text (due .asked))) (posts-by sheet text (due .asked) other)
+      abbrev d : Decision
+      d = requestDecided sheet (bookIn t) (requestOf sheet c) count 2000
 
-      after : Underway sheet text holds first (dayAfter text day (outcomeOf decision))
-      after = under-next sheet text holds first day u some decision decision-is
+      decided-here : decidedOn sheet (stateOf run) (requestOf sheet c) ≡ d
+      decided-here =
+          sym (decided-on sheet (bookIn t) (requestOf sheet c) count (length list) _ (under .holds) (u .stands .kept .fits))
+          ∙ ap (requestDecided sheet (bookIn t) (requestOf sheet c) count) (u .stands .places)
 
-      pub record-next : d .accepted ≡ true → (b : Book) → b ≡ withHour book (postingPlace q) (d .mark) (sheet .units) (d .result)
-          → Underway sheet text holds first (dayWith (count + d .n) b (answeredBy text (due .after) (due .left) (d .place) (d .answer)))
-      unfolding dayAfter appliedTo
-      record-next t b b-is = subst (λ (x : Book). Underway sheet text holds first (dayWith (count + d .n) x (answeredBy text (due .after) (due .left) (d .place) (d .answer)))) (sym b-is) (simp t at after)
+      turned-day : turned sheet text run .day ≡ dayAfter text day (outcomeOf d)
+      unfolding turned performed
+      turned-day = ap (λ (x : Decision). dayAfter text day (outcomeOf x)) decided-here
 
-      pub record-refused : d .accepted ≡ false
-          → Underway sheet text holds first (dayWith count book (answeredBy text (due .after) (due .left) (d .place) (d .answer)))
-      unfolding dayAfter appliedTo
-      record-refused t = simp t at after
+      -- the day after the call stands on the list after it
+      turned-stands : 0 < due .left → Stands (turned sheet text run .day)
+      turned-stands some =
+          let left : due .left ≡ suc (due .left - 1) = omega arith in
+          let s = turn-state sheet text run in
+          record {
+            list = turned sheet text run .list;
+            places = ap (λ (st : State). length (st .journal)) s ∙ (carried-long sheet (stateOf run) c ∙ u .stands .places);
+            kept = subst (Kept sheet) (sym s) (carried-keeps sheet (stateOf run) c (under .holds) (u .stands .kept));
+            ahead = ap (λ (r : Running). r .day) (ran-next sheet text run (due .left - 1) left) ∙ u .stands .ahead;
+          }
+
+      -- the call carried out
+      module _ (call : Call) (t′ : Table) (rows′ : List ℤ) (done : Done) (call-is : call ≡ decoded (due .asked))
+          (carried : Carried terms offers (callOf text call) count 2000 t 0 rows t′ rows′ done) where
+        matches : Matches (sheet .units) d 0 rows t′ rows′ done
+        matches =
+            subst (λ (x : LedgerCall). Matches (sheet .units) (requestDecided sheet (bookIn t) (requestOf sheet x) count 2000) 0 rows t′ rows′ done)
+            (ap (callOf text) call-is ∙ decoded-is text (due .asked)) (carried .matches sheet under book-fits)
+
+        posted-here : postedOf (done .answer) ≡ d .n
+        posted-here = ap postedOf (matches .answer) ∙ counts sheet (bookIn t) (requestOf sheet c) count 2000 .posted-is
+
+        pub count-more : count + postedOf (done .answer) < 2 ^ 64
+        count-more =
+            let most = subst (λ (x : Decision). (x .n ≤ 40) × (x .n ≤ length list - x .at)) decided-here (decided-fits sheet (bookIn t) (requestOf sheet c) count (length list) _) in
+            omega (arith, posted-here, most .0, count-most count 2000 count-fits)
+
+        pub under-next : 0 < due .left → (posted : ℕ) (due′ : Due) → posted ≡ postedOf (done .answer)
+            → due′ ≡ answeredBy text (due .after) (due .left) (done .place) (done .answer) → Long t′ → length rows′ ≡ length rows
+            → Underway t′ rows′ (count + posted) due′
+        unfolding dayAfter
+        under-next some posted due′ p e long same =
+            let total : d .count ≡ count + posted = counts sheet (bookIn t) (requestOf sheet c) count 2000 .count-is ∙ ap (λ (n : ℕ). count + n) (sym (p ∙ posted-here)) in
+            let next : answeredBy text (due .after) (due .left) (d .place) (d .answer) ≡ due′ =
+            (λ i. answeredBy text (due .after) (due .left) (sym (matches .place) i) (sym (matches .answer) i)) ∙ sym e in
+            let after : dayAfter text day (outcomeOf d) ≡ dayWith (count + posted) (bookIn t′) due′ = λ i. dayWith (total i) (sym (matches .book) i) (next i) in
+            record {
+              stands = subst Stands (turned-day ∙ after) (turned-stands some);
+              long = long;
+              rows-long = same ∙ u .rows-long;
+            }

@@ -20,9 +20,9 @@ use Rattle.ledger.specs.declared.Answer.the-variants.{Accepted, Posted, Refused
 use Rattle.ledger.specs.declared.Outcome.{Outcome}
 use Rattle.ledger.specs.Numbers.{refusalNumber}
 use Rattle.ledger.specs.Ledger.{Call}
-use Rattle.ledger.specs.Calls.{State, requestOf}
+use Rattle.ledger.specs.Calls.{State}
 use Rattle.ledger.specs.Requests.{callFor, noneAsked}
-use Rattle.journal.specs.Journal.{Performed, performed}
+use Rattle.single.specs.Journal.{Performed, performed}
 use Rattle.account.specs.declared.Next.{Next}
 use Rattle.account.specs.declared.Next.the-variants.{Ends, Bad, Asks}
 use Rattle.account.specs.declared.Due.{Due}
@@ -99,10 +99,6 @@ answeredBy text after left place Accepted = dueAt text after left
 answeredBy text after left place (Posted n) = dueAt text place left
 answeredBy text after left place (Refused r) = noneDue (refusalNumber r)
 
--- the same of a take, by its refusal's number or 0
-unfoldable pub takenDue : List ℕ → (after left number : ℕ) → Due
-takenDue text after left number = cond (eqb number 0) (dueAt text after left) (noneDue number)
-
 unfoldable pub dayAfter : List ℕ → Day → Outcome → Day
 dayAfter text d o = dayWith (o .count) (o .book) (answeredBy text (d .after) (d .left) (o .place) (o .answer))
 
@@ -113,7 +109,7 @@ pub record Running : Type 0 where
 
 -- "each carried out as it comes"
 abbrev pub performedIn : Sheet → List ℕ → Running → Performed
-performedIn s text r = performed (r .list) (r .day .count) s (r .day .book) (requestOf s (callFor text (r .day .asked)))
+performedIn s text r = performed (r .list) (r .day .count) s (r .day .book) (callFor text (r .day .asked))
 
 unfoldable pub turned : Sheet → List ℕ → Running → Running
 turned s text r =

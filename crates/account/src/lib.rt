@@ -1,19 +1,19 @@
 // The day's account: from the bytes of day.txt to the bytes printed. The sheet is read, then takes and hour records are carried out as they
 // come, over a journal of 2,000 places.
 ghost use mathlib.Core.Path.{_≡_};
+ghost use mathlib.Core.Bool.{true};
 ghost use Prim.Native.Nat.{_-_, _≤_};
+ghost use Rattle.sheet.specs.Ranges.{sheetHolds};
 ghost use Rattle.ledger.specs.Requests.{noneAsked};
 ghost use Rattle.decimal.specs.Output.{output, written, filled};
 ghost use Rattle.listing.specs.Listing.{mostBytes};
-ghost use Rattle.account.specs.Day.{takeRow, takeOf, settleOf, nextAt, noneDue, dueAt, answeredBy, takenDue, dayWith, dayFrom};
+ghost use Rattle.account.specs.Day.{takeRow, takeOf, settleOf, nextAt, noneDue, dueAt, answeredBy, dayWith, dayFrom};
 ghost use Rattle.account.specs.Statement.{dayLines, statementOf};
-use energy::HubKwh;
 use ledger::Answer;
 use ledger::Asked;
 use lines::ReadAnswer;
 use sheet::Sheet;
 use state::Book;
-use state::HourEntry;
 use text::Line;
 use text::Row;
 
@@ -181,18 +181,8 @@ fn due_after(text: &[u8], after: usize, left: usize, place: u64, answer: Answer)
     match answer {
         Answer::Accepted => due_at(text, after, left),
         Answer::Posted(_) => due_at(text, place as usize, left),
-        Answer::Refused(refusal) => none_due(book::refusal_number(refusal)),
+        Answer::Refused(refusal) => none_due(decisions::refusal_number(refusal)),
     }
-}
-
-// What is due after a take, by its refusal's number or 0.
-fn due_taken(text: &[u8], due: Due, number: u64) -> Due
-    ensures { λ r. ⌜ r ≡ takenDue (now (text .entry)) (due .after) (due .left) number ⌝ }
-{
-    if number == 0 {
-        return due_at(text, due.after, due.left);
-    }
-    none_due(number)
 }
 
 // The day with what is due in it.
@@ -210,80 +200,46 @@ fn day_with(count: u64, book: Book, due: Due) -> Day
     }
 }
 
-// The day behind its sheet, over a journal of 2,000 places. The sheet is tested once. The book stands in one place: a take stores a commitment, a
-// record its hour. What is posted is not printed, so the number of postings alone is kept.
-pub fn day_of(sheet: Sheet, text: &[u8], at: usize) -> Day
+// The day behind a sheet that passes 9, over a journal of 2,000 places: each call is carried out as it comes, on the numbers of the book. What is posted is
+// not printed, so the number of postings alone is kept.
+fn day_of(sheet: Sheet, text: &[u8], at: usize) -> Day
+    requires { ⌜ sheetHolds sheet ≡ true ⌝ }
     ensures { λ r. ⌜ r ≡ dayFrom sheet (now (text .entry)) at ⌝ }
 {
-    let holds = sheet::sheet_holds(sheet);
-    let units = sheet.units;
-    let offers = settlement::all_offers(sheet);
-    let limits = book::limits_of(units, offers);
-    let mut book = state::empty_book();
+    let terms = settlement::terms_of(sheet);
+    let offers = numbers::offer_numbers(sheet);
+    let mut commitment = [0u64; 192];
+    let mut mark = [0u64; 24];
+    let mut energy = [0u64; 192];
+    let mut amounts = [0i64; 960];
+    let mut rows = [0i64; 40];
     let mut count: u64 = 0;
     let mut due = due_at(text, at, text.len() + 1);
     while 0 < due.left {
-        let asked = due.asked;
-        if book::commits(asked.kind) {
-            let kind = asked.kind;
-            let hour = asked.hour;
-            let unit = asked.unit;
-            let h = book::hour_place(hour);
-            let from = book::entry_place(hour, unit);
-            let target = book::entry_place(hour, book::target_of(kind, unit, asked.to));
-            let settled = book.mark[h] == 1;
-            let source = book.commitment[from];
-            let held = book.commitment[target];
-            let last = limits[target];
-            let shift = book::shift_of(holds, units, asked, settled, source, held, last);
-            let left = shift.from;
-            let then = shift.to;
-            book.commitment[from] = left;
-            book.commitment[target] = then;
-            due = due_taken(text, due, shift.number);
-        } else {
-            let request = book::request_of(sheet, text, asked);
-            let h = book::posting_place(request);
-            let mut offer = [offer::no_offer(); 8];
-            let mut held = [HubKwh(0); 8];
-            let mut old = [settlement::no_amounts(); 8];
-            let mut u: usize = 0;
-            while u < 8 {
-                let o = offers[8 * h + u];
-                let kwh = book.commitment[8 * h + u];
-                let its = book.amounts[8 * h + u];
-                offer[u] = o;
-                held[u] = kwh;
-                old[u] = its;
-                u += 1;
-            }
-            let day = settlement::hour_sheet_with(sheet, h as u64 + 1, offer);
-            let entry = HourEntry {
-                mark: book.mark[h],
-                commitment: held,
-                amounts: old,
-            };
-            let d = book::decide_known(holds, day, entry, request, count, 2000);
-            let answer = d.answer;
-            due = due_after(text, due.after, due.left, d.place, answer);
-            if d.accepted {
-                let result = d.result;
-                book.mark[h] = d.mark;
-                count += d.n as u64;
-                let mut k: usize = 0;
-                while k < 8 {
-                    if units::member_at(units, k) {
-                        let grains = result.energy[k];
-                        let amounts = result.amounts[k];
-                        book.energy[8 * h + k] = grains;
-                        book.amounts[8 * h + k] = amounts;
-                    }
-                    k += 1;
-                }
-            }
-        }
+        let call = decisions::decode(due.asked);
+        let done = engine::carry_out(
+            &mut commitment,
+            &mut mark,
+            &mut energy,
+            &mut amounts,
+            &mut rows,
+            0,
+            &offers,
+            terms,
+            text,
+            call,
+            count,
+            2000,
+        );
+        let answer = done.answer;
+        count += decisions::posted_of(answer);
+        due = due_after(text, due.after, due.left, done.place, answer);
     }
-    day_with(count, book, due)
+    day_with(
+        count,
+        numbers::book_by(&commitment, mark, &energy, &amounts),
+        due,
+    )
 }
 
 // What is printed of a day.

@@ -9,7 +9,7 @@ use Rattle.postings.specs.declared.Posting.{Posting}
 use Rattle.ledger.specs.declared.Outcome.{Outcome}
 use Rattle.ledger.specs.declared.TotalAnswer.{TotalAnswer}
 use Rattle.ledger.specs.Total.{totalOn}
-use Rattle.journal.specs.Journal.{Performed}
+use Rattle.single.specs.Journal.{Performed}
 use Rattle.journal.proofs.Posted.{length-performed}
 use Rattle.decimal.proofs.Laws.{length-written}
 use Rattle.daybook.specs.declared.Stand.{Stand}

@@ -11,9 +11,8 @@ use Rattle.sheet.specs.Day.{readSheet}
 use Rattle.state.specs.declared.Book.{Book}
 use Rattle.state.specs.Book.{emptyBook}
 use Rattle.postings.specs.declared.Posting.{Posting}
-use Rattle.ledger.specs.Calls.{requestOf}
 use Rattle.ledger.specs.Requests.{callFor}
-use Rattle.journal.specs.Journal.{Performed, performed}
+use Rattle.single.specs.Journal.{Performed, performed}
 use Rattle.asks.specs.declared.Asking.{Asking}
 use Rattle.asks.specs.declared.Extent.{Extent}
 use Rattle.asks.specs.Extent.{extentOf}
@@ -33,7 +32,7 @@ abbrev pub asked : List ℕ → Course → Asking
 asked text c = askedNext text (c .at) (c .listed)
 
 abbrev pub called : Sheet → List ℕ → Course → Performed
-called sheet text c = performed (c .list) (c .count) sheet (c .book) (requestOf sheet (callFor text (asked text c .call)))
+called sheet text c = performed (c .list) (c .count) sheet (c .book) (callFor text (asked text c .call))
 
 abbrev pub printed : Sheet → List ℕ → Course → Performed → List ℕ
 printed sheet text c p = turnText text (sheet .units) (c .at) (c .listed) (asked text c) (p .outcome) (totalAfter sheet (asked text c) p)

@@ -7,9 +7,8 @@ use Rattle.state.specs.Book.{emptyBook}
 use Rattle.postings.specs.declared.Posting.{Posting}
 use Rattle.ledger.specs.declared.Outcome.{Outcome}
 use Rattle.ledger.specs.declared.TotalAnswer.{TotalAnswer}
-use Rattle.ledger.specs.Calls.{requestOf}
 use Rattle.ledger.specs.Requests.{callFor}
-use Rattle.journal.specs.Journal.{Performed, performed}
+use Rattle.single.specs.Journal.{Performed, performed}
 use Rattle.decimal.specs.Output.{Output, output, written}
 use Rattle.asks.specs.declared.Asking.{Asking}
 use Rattle.daybook.specs.declared.Stand.{Stand}
@@ -41,7 +40,7 @@ abbrev pub askedBy : List ℕ → Running → Asking
 askedBy text r = askedNext text (r .stand .at) (r .stand .listed)
 
 abbrev pub calledBy : Sheet → List ℕ → Running → Performed
-calledBy sheet text r = performed (r .list) (r .stand .count) sheet (r .stand .book) (requestOf sheet (callFor text (askedBy text r .call)))
+calledBy sheet text r = performed (r .list) (r .stand .count) sheet (r .stand .book) (callFor text (askedBy text r .call))
 
 abbrev pub toldBy : Sheet → List ℕ → Running → Performed → Told
 toldBy sheet text r p = toldTo (r .out) text sheet (r .stand) (askedBy text r) (p .outcome) (totalAfter sheet (askedBy text r) p)

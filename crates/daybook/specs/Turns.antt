@@ -12,7 +12,7 @@ use Rattle.postings.specs.Journal.{noPosting}
 use Rattle.ledger.specs.declared.Outcome.{Outcome}
 use Rattle.ledger.specs.declared.TotalAnswer.{TotalAnswer}
 use Rattle.ledger.specs.Total.{totalOn}
-use Rattle.journal.specs.Journal.{Performed}
+use Rattle.single.specs.Journal.{Performed}
 use Rattle.asks.specs.declared.Asking.{Asking}
 use Rattle.asks.specs.Asks.{noAsked, askingAt}
 use Rattle.entries.specs.Entries.{entryLine}

@@ -33,14 +33,14 @@ fn put_amount(out: &mut [u8], at: usize, z: i64) -> usize
 fn put_refusal(out: &mut [u8], at: usize, refusal: Refusal) -> usize
     ensures { λ r. ⌜ output (now (out .exit)) r ≡ written (output (now (out .entry)) at) (refusalText refusal) ⌝ }
 {
-    let number = book::refusal_number(refusal);
+    let number = decisions::refusal_number(refusal);
     let a = decimal::put_bytes(out, at, b"refused=");
     let b = decimal::put_number(out, a, number);
     if 4 < number {
         return b;
     }
     let c = decimal::put_bytes(out, b, b" line=");
-    decimal::put_number(out, c, book::refusal_line(refusal))
+    decimal::put_number(out, c, decisions::refusal_line(refusal))
 }
 
 // The line of a sheet that is refused.

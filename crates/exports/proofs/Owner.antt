@@ -49,11 +49,11 @@ use denote.Exit.{yes}
 use denote.Signature.{plain}
 use Rattle.postings.specs.declared.Posting.{Posting}
 use Rattle.sheet.specs.declared.Sheet.{Sheet}
-use Rattle.journal.specs.declared.Ran.{Ran}
+use Rattle.batch.specs.declared.Ran.{Ran}
 use Rattle.postings.specs.Journal.{noPosting as past}
 use Rattle.ledger.specs.Requests.{callsIn}
 use Rattle.ledger.specs.Demand.{Demand}
-use Rattle.journal.specs.Run.{Running, startRan, turnsOf, repliesIn, ranAll}
+use Rattle.batch.specs.Run.{Running, startRan, turnsOf, repliesIn, ranAll}
 use Rattle.exports.specs.Exports.{listedTo, mostPlaces, Owned, ownedOf}
 use Rattle.journal.proofs.OwnList.{past-is, array-is, into-cells, out-of-cells}
 use Rattle.exports.proofs.Front.{behind, others, own-front, own-whole}
@@ -63,8 +63,8 @@ use Rattle.postings.proofs.Posting.Laws as T′
 use Rattle.journal.proofs.Typed.{typed-sheet, typed-ran}
 use Rattle.sheet.proofs.Sheet as Z
 use Rattle.sheet.proofs.Sheet.Laws as Z′
-use Rattle.journal.proofs.Ran as R
-use Rattle.journal.proofs.Ran.Laws as R′
+use Rattle.batch.proofs.Ran as R
+use Rattle.batch.proofs.Ran.Laws as R′
 use Rattle.journal.proofs.run as run′
 use Rattle.journal.proofs.run.Symbol as run-def
 use Rattle.journal.proofs.run.Symbol.{name as #journal·run}

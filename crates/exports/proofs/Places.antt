@@ -11,8 +11,8 @@ use borrow.Author.Tests.{lt-ltb, le-ltb}
 use Rattle.postings.specs.declared.Posting.{Posting}
 use Rattle.postings.specs.Journal.{noPosting}
 use Rattle.sheet.specs.declared.Sheet.{Sheet}
-use Rattle.journal.specs.declared.Ran.{Ran}
-use Rattle.journal.specs.Run.{Running, startRan, turnsOf, ranAll}
+use Rattle.batch.specs.declared.Ran.{Ran}
+use Rattle.batch.specs.Run.{Running, startRan, turnsOf, ranAll}
 use Rattle.exports.specs.Exports.{signedOf, postingStored, listedTo, ownStart, Owned, ownedBy, ownedOf}
 
 abbrev four : List ℤ → ℕ → (a b c d : ℤ) → List ℤ

@@ -17,8 +17,8 @@ use Rattle.state.specs.Book.{noKwh, noGrains, pastAmounts, itemOf}
 use Rattle.state.specs.Sizes.{hours, items, entries}
 use Rattle.postings.specs.declared.Posting.{Posting}
 use Rattle.postings.specs.Journal.{noPosting}
-use Rattle.journal.specs.declared.Ran.{Ran}
-use Rattle.journal.specs.Run.{Running, startRan, turnsOf, ranAll}
+use Rattle.batch.specs.declared.Ran.{Ran}
+use Rattle.batch.specs.Run.{Running, startRan, turnsOf, ranAll}
 
 -- the values of a table stored one after the other from the place `at` on
 unfoldable pub put : {A : Type 0} → List A → (at : ℕ) → (ℕ → A) → ℕ → List A

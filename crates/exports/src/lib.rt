@@ -6,7 +6,7 @@ ghost use Rattle.decimal.specs.Output.{output, filled};
 ghost use Rattle.listing.specs.Listing.{mostBytes};
 ghost use Rattle.account.specs.Statement.{statementOf};
 ghost use Rattle.exports.specs.Exports.{commitmentNumbers, markNumbers, energyNumbers, heldNumbers, itemNumbers, amountNumbers, signedOf, postingStored, listedTo, fewPlaces, mostPlaces, ownedOf, calledOf};
-use journal::Ran;
+use batch::Ran;
 use lines::ReadAnswer;
 use postings::Posting;
 use settlement::Amounts;

@@ -52,8 +52,8 @@ use denote.Exit.{yes}
 use denote.Signature.{plain}
 use Rattle.postings.specs.declared.Posting.{Posting}
 use Rattle.postings.specs.Journal.{noPosting as past}
-use Rattle.journal.specs.Journal.{posted}
-use Rattle.journal.proofs.Posted.{length-posted}
+use Rattle.single.specs.Journal.{posted}
+use Rattle.single.proofs.Posted.{length-posted}
 use Rattle.postings.proofs.Posting as T
 use Rattle.postings.proofs.Posting.Laws as T′
 use Rattle.journal.proofs.Typed.{rows-val}

@@ -2,11 +2,9 @@ pub mod Again
 pub mod Appended
 pub mod OwnList
 pub mod Posted
-pub mod Turned
 pub mod Typed
 pub mod Listed
 pub mod Params
 pub mod Thin
 pub mod Stood
-pub mod Going
-pub mod Onward
+pub mod Folded

@@ -12,25 +12,18 @@ use Rattle.finite.specs.Finite.{tabulate}
 use Rattle.finite.proofs.Tables.{tabulate-same}
 use Rattle.sheet.specs.declared.Sheet.{Sheet}
 use Rattle.postings.specs.declared.Posting.{Posting}
-use Rattle.ledger.specs.declared.Answer.{Answer}
-use Rattle.ledger.specs.declared.Answer.the-variants.{Accepted, Posted, Refused}
 use Rattle.ledger.specs.declared.Outcome.{Outcome}
 use Rattle.ledger.specs.Ledger.{Reply}
 use Rattle.ledger.specs.Numbers.{replyOf, numberOf, lineOf, postedOf}
-use Rattle.ledger.specs.Requests.{callAt, requestAt, callsIn}
+use Rattle.ledger.specs.Requests.{callAt, callsIn}
 use Rattle.ledger.specs.Calls.{State, Ran, carriedOut, requestOf, ranFrom, begun}
 use Rattle.ledger.specs.Demand.{Demand}
 use Rattle.ledger.proofs.Onward.{further, ran-further}
 use Rattle.ledger.proofs.Promise.{promise}
-use Rattle.journal.specs.Journal.{performed}
-use Rattle.journal.specs.Run.{Running, startRan, answered, replyIn, repliesIn, turnsOf, stateOf, performedAt, turned, ranAll}
-use Rattle.journal.proofs.Turned.{length-answers}
-
--- a reply is its numbers
-reply-is : (a : Answer) (place : ℕ) → _≡_ {A = Reply} (record { number = numberOf a; line = lineOf a; posted = postedOf a; place = place }) (replyOf a place)
-reply-is Accepted place = refl
-reply-is (Posted n) place = refl
-reply-is (Refused r) place = refl
+use Rattle.single.specs.Journal.{performed}
+use Rattle.batch.specs.Run.{Running, startRan, answered, replyIn, repliesIn, turnsOf, stateOf, performedAt, turned, ranAll}
+use Rattle.batch.proofs.Along.{turn-state}
+use Rattle.batch.proofs.Replies.{length-answers, reply-is}
 
 -- four numbers stored from a place on, read back; earlier places keep theirs
 module _ (l : List ℕ) (p a b c d : ℕ) where
@@ -111,25 +104,21 @@ module _ (sheet : Sheet) (calls text : List ℕ) (journal : List Posting) (answe
   abbrev ranBy : ℕ → Ran
   ranBy k = ranFrom sheet (begun journal) (callsIn calls text k)
 
-  -- one turn is one call carried out
-  turn-state : (s : Running) (k : ℕ) → stateOf (turned sheet calls text s k) ≡ carriedOut sheet (stateOf s) (requestOf sheet (callAt calls text k)) .state
-  unfolding turned performed carriedOut requestAt
-  turn-state s k = refl
-
+  -- a turn's reply is that of the call carried out
   turn-reply : (s : Running) (k : ℕ) → k < length (s .answers) / 4
       → replyIn (turned sheet calls text s k .answers) k ≡ carriedOut sheet (stateOf s) (requestOf sheet (callAt calls text k)) .reply
-  unfolding turned performed carriedOut requestAt
+  unfolding turned performed carriedOut
   turn-reply s k h = read-back (s .answers) k (performedAt sheet calls text s k .outcome) h
 
   by-more : (k : ℕ) → ranBy (suc k) ≡ further sheet (callAt calls text k) (ranBy k)
   unfolding tabulate
   by-more k = ran-further sheet (callAt calls text k) (begun journal) (callsIn calls text k)
 
-  pub states : (k : ℕ) → stateOf (ranTo k) ≡ ranBy k .state
+  states : (k : ℕ) → stateOf (ranTo k) ≡ ranBy k .state
   unfolding ranAll ranFrom tabulate
   states zero = refl
   states (suc k) =
-      turn-state (ranTo k) k
+      turn-state sheet calls text (ranTo k) k
       ∙ (ap (λ (st : State). carriedOut sheet st (requestOf sheet (callAt calls text k)) .state) (states k)
       ∙ ap (λ (r : Ran). r .state) (sym (by-more k)))
 
@@ -155,11 +144,14 @@ module _ (sheet : Sheet) (calls text : List ℕ) (journal : List Posting) (answe
       ∙ ap (λ (r : Ran). r .replies) (sym (by-more k))
 
   -- the promise about the whole list, of what is left after so many calls
-  pub ran-demand : (k : ℕ) → k ≤ length answers / 4 → Demand sheet journal (callsIn calls text k) (repliesIn (ranTo k .answers) k) (stateOf (ranTo k))
+  ran-demand : (k : ℕ) → k ≤ length answers / 4 → Demand sheet journal (callsIn calls text k) (repliesIn (ranTo k .answers) k) (stateOf (ranTo k))
   ran-demand k h =
       subst (λ (r : List Reply). Demand sheet journal (callsIn calls text k) r (stateOf (ranTo k))) (sym (replies k h))
       (subst (λ (st : State). Demand sheet journal (callsIn calls text k) (ranBy k .replies) st) (sym (states k))
       (promise sheet journal (callsIn calls text k)))
+
+  pub run-demand : (k : ℕ) → k ≤ length answers / 4 → (s : Running) → s ≡ ranTo k → Demand sheet journal (callsIn calls text k) (repliesIn (s .answers) k) (stateOf s)
+  run-demand k h s e = subst (λ (x : Running). Demand sheet journal (callsIn calls text k) (repliesIn (x .answers) k) (stateOf x)) (sym e) (ran-demand k h)
 
 -- there are places for the answers of all calls that are carried out
 pub turns-room : (calls answers : ℕ) → turnsOf calls answers ≤ answers / 4

@@ -1,5 +1,5 @@
 -- The parameters that a call has past the list, the count, the sheet and the book, as one list of any length: their locals are made, filled, read
--- and freed together, by going down the list, and each is handed on to the function that makes the request.
+-- and freed together, by going down the list, and each is handed on to the function that decides the call.
 -- Assumes nothing but `Given` and what each parameter brings.
 use mathlib.Core.Path.{_≡_, refl, sym, subst}
 use Prim.Native.Nat.{ℕ, zero, suc}

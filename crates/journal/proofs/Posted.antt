@@ -1,86 +1,95 @@
 -- What a call does over the list is what its definition says: the scan tells whether the postings up to the count hold wherever that matters,
--- and rows stored one after the other are the rows pasted in.
+-- rows stored one after the other are the rows pasted in, and the rows that are decided agree with the definition's as far as they are stored.
 -- Assumes nothing.
 use mathlib.Core.Path.{_≡_, refl, _∙_, ap, sym}
 use mathlib.Core.Bool.{Bool, true, false}
 use mathlib.Core.List.{List}
-use Prim.Native.Nat.{ℕ, zero, suc, _+_, _-_, _≤_}
+use Prim.Native.Nat.{ℕ, _-_, _≤_}
 use native.Mathlib.Omega.{arith}
 use lib.IntN.{ℤ}
-use lib.ListN.{length, getD, set, length-set, take}
-use lib.Seq.{paste, paste-zero, paste-suc}
+use lib.ListN.{length, take}
 use Rattle.finite.proofs.Tests.{and-left, and-right}
 use Rattle.sheet.specs.declared.Sheet.{Sheet}
 use Rattle.sheet.specs.Ranges.{sheetHolds}
 use Rattle.state.specs.declared.Book.{Book}
 use Rattle.state.specs.Ranges.{bookHolds}
 use Rattle.postings.specs.declared.Posting.{Posting}
-use Rattle.postings.specs.Journal.{noPosting, coveredBy, countHolds, postedHold, totalOf, scannedTo}
+use Rattle.postings.specs.Journal.{coveredBy, countHolds, postedHold, totalOf, scannedTo}
 use Rattle.postings.proofs.Counted.{count-list, count-most, covered-all}
 use Rattle.postings.proofs.Scan.{scan-good, scan-sum}
-use Rattle.ledger.specs.declared.Request.{Request}
 use Rattle.ledger.specs.declared.Decision.{Decision}
+use Rattle.ledger.specs.declared.Outcome.{Outcome}
 use Rattle.ledger.specs.declared.Verdict.the-variants.{Accepted}
-use Rattle.ledger.specs.Calls.{bookFits, decided, journalAfter, outcomeOf}
+use Rattle.ledger.specs.Ledger.{Call}
+use Rattle.ledger.specs.Calls.{bookFits, decided, requestOf, journalAfter, outcomeOf}
 use Rattle.ledger.specs.Total.{totalBy, itemOf, totalDecided, totalOn}
 use Rattle.ledger.proofs.Places.{decided-fits, decided-rows, fits-by, decided-same}
-use Rattle.journal.specs.Journal.{scannedIn, posted, Performed, performed}
-
-pub length-posted : (l : List Posting) (at : ℕ) (rows : List Posting) (k : ℕ) → length (posted l at rows k) ≡ length l
-unfolding posted
-length-posted l at rows zero = refl
-length-posted l at rows (suc k) = length-set (posted l at rows k) (at + k) (getD rows k noPosting) ∙ length-posted l at rows k
+use Rattle.single.specs.declared.CallDecision.{CallDecision}
+use Rattle.single.specs.Journal.{scannedIn, posted, Performed, performed}
+use Rattle.single.specs.Single.{checkedBy, Decides, performedBy}
+use Rattle.single.proofs.Posted.{length-posted, posted-paste, posted-same}
 
 pub covered-le : (count len : ℕ) → coveredBy count len ≤ len
 unfolding coveredBy
 covered-le count len = omega arith
 
--- rows stored one after the other are pasted in
-pub posted-paste : (l : List Posting) (at : ℕ) (rows : List Posting) (n : ℕ) → n ≤ length l - at → n ≤ length rows → posted l at rows n ≡ paste l at rows n
-unfolding posted
-posted-paste l at rows zero h r = paste-zero l at rows
-posted-paste l at rows (suc k) h r =
-    ap (λ (z : List Posting). set z (at + k) (getD rows k noPosting)) (posted-paste l at rows k (omega arith) (omega arith))
-    ∙ paste-suc l at rows k noPosting (omega arith) r
+-- what fits before the postings are looked at fits after it
+pub checked-fits : (places : ℕ) (good : Bool) (b : Book) (count : ℕ) (d : CallDecision) → (d .n ≤ 640) × (d .n ≤ places - d .at)
+    → (checkedBy good b count d .n ≤ 640) × (checkedBy good b count d .n ≤ places - checkedBy good b count d .at)
+checked-fits places true b count d h = h
+checked-fits places false b count d h = (omega arith, omega arith)
 
 module _ (l : List Posting) (count : ℕ) where
   -- where the count holds, the scan sees all postings up to it
   seen-to : (unit item : ℕ) → countHolds count (length l) ≡ true → scannedIn l count unit item ≡ scannedTo l unit item count
   seen-to unit item t = ap (scannedTo l unit item) (covered-all count (length l) t)
 
-  seen-good : (unit item : ℕ) → countHolds count (length l) ≡ true → scannedIn l count unit item .good ≡ postedHold (take count l)
+  pub seen-good : (unit item : ℕ) → countHolds count (length l) ≡ true → scannedIn l count unit item .good ≡ postedHold (take count l)
   seen-good unit item t = ap (λ s. s .good) (seen-to unit item t) ∙ scan-good l unit item count (count-list count (length l) t)
 
   module _ (s : Sheet) (b : Book) where
-    -- what the code decides by its scan
-    abbrev pub decidedBy : Request → Decision
-    decidedBy q = decided s b q count (length l) (scannedIn l count 0 0 .good)
-
-    module _ (q : Request) (good : Bool) where
+    module _ (c : Call) (good : Bool) where
       abbrev d : Decision
-      d = decided s b q count (length l) good
+      d = decided s b (requestOf s c) count (length l) good
 
       posted-is : posted l (d .at) (d .plan .row) (d .n) ≡ journalAfter l d
-      posted-is = posted-paste l (d .at) (d .plan .row) (d .n) (decided-fits s b q count (length l) good .1) (decided-rows s b q count (length l) good)
+      posted-is = posted-paste l (d .at) (d .plan .row) (d .n) (decided-fits s b (requestOf s c) count (length l) good .1) (decided-rows s b (requestOf s c) count (length l) good)
 
       -- a call from its parts, by whatever tells whether the postings up to the count hold
-      pub performed-by : (countHolds count (length l) ≡ true → good ≡ postedHold (take count l)) → (zs : List Posting) → zs ≡ posted l (d .at) (d .plan .row) (d .n)
-          → _≡_ {A = Performed} (record { outcome = outcomeOf d; list = zs }) (performed l count s b q)
+      performed-by : (countHolds count (length l) ≡ true → good ≡ postedHold (take count l)) → (zs : List Posting) → zs ≡ posted l (d .at) (d .plan .row) (d .n)
+          → _≡_ {A = Performed} (record { outcome = outcomeOf d; list = zs }) (performed l count s b c)
       unfolding performed
       performed-by tells zs e =
           ap (λ (z : List Posting). record { outcome = outcomeOf d; list = z }) (e ∙ posted-is)
-          ∙ ap (λ (x : Decision). record { outcome = outcomeOf x; list = journalAfter l x }) (decided-same s b q count (length l) good _ tells)
+          ∙ ap (λ (x : Decision). record { outcome = outcomeOf x; list = journalAfter l x }) (decided-same s b (requestOf s c) count (length l) good _ tells)
 
-    -- by the scan
-    pub performed-is : (q : Request) (zs : List Posting) → zs ≡ posted l (decidedBy q .at) (decidedBy q .plan .row) (decidedBy q .n)
-        → _≡_ {A = Performed} (record { outcome = outcomeOf (decidedBy q); list = zs }) (performed l count s b q)
-    performed-is q zs e = performed-by q (scannedIn l count 0 0 .good) (seen-good 0 0) zs e
+    module _ (c : Call) where
+      abbrev good : Bool
+      good = scannedIn l count 0 0 .good
 
-    -- a call keeps the list's length
-    pub length-performed : (q : Request) → length (performed l count s b q .list) ≡ length l
-    length-performed q =
-        ap (λ (p : Performed). length (p .list)) (sym (performed-is q (posted l (decidedBy q .at) (decidedBy q .plan .row) (decidedBy q .n)) refl))
-        ∙ length-posted l (decidedBy q .at) (decidedBy q .plan .row) (decidedBy q .n)
+      abbrev by-scan : Decision
+      by-scan = d c good
+
+      -- by the scan
+      performed-is : (zs : List Posting) → zs ≡ posted l (by-scan .at) (by-scan .plan .row) (by-scan .n)
+          → _≡_ {A = Performed} (record { outcome = outcomeOf by-scan; list = zs }) (performed l count s b c)
+      performed-is zs e = performed-by c good (seen-good 0 0) zs e
+
+      -- a call keeps the list's length
+      pub length-performed : length (performed l count s b c .list) ≡ length l
+      length-performed =
+          ap (λ (p : Performed). length (p .list)) (sym (performed-is (posted l (by-scan .at) (by-scan .plan .row) (by-scan .n)) refl))
+          ∙ length-posted l (by-scan .at) (by-scan .plan .row) (by-scan .n)
+
+      -- what is decided first without the postings, and then by the scan, is the call
+      pub decides-performed : (x : CallDecision) → Decides s b count (length l) c x → performedBy l count b x ≡ performed l count s b c
+      decides-performed x decides =
+          let y = checkedBy good b count x in
+          let same = decides .same good in
+          let rows : posted l (y .at) (y .row) (y .n) ≡ posted l (by-scan .at) (by-scan .plan .row) (by-scan .n)
+          = (λ i. posted l (same .at i) (y .row) (same .n i)) ∙ posted-same l (by-scan .at) (y .row) (by-scan .plan .row) (by-scan .n) (same .rows) in
+          ap (λ (o : Outcome). record { outcome = o; list = posted l (y .at) (y .row) (y .n) }) (same .outcome)
+          ∙ performed-is (posted l (y .at) (y .row) (y .n)) rows
 
     -- a total is asked of a sum only where 12 does not hold
     total-same : (sheetFits fits known : Bool) (x y : ℤ) → (fits ≡ true → x ≡ y) → totalBy sheetFits fits known x ≡ totalBy sheetFits fits known y

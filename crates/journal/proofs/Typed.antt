@@ -16,43 +16,37 @@ use denote.Steps.{only}
 use denote.Struct.Laws as LL
 use Rattle.postings.specs.declared.Posting.{Posting}
 use Rattle.postings.specs.declared.Scanned.{Scanned}
-use Rattle.postings.specs.declared.Plan.{Plan}
 use Rattle.sheet.specs.declared.Sheet.{Sheet}
 use Rattle.state.specs.declared.Book.{Book}
 use Rattle.ledger.specs.declared.Asked.{Asked}
-use Rattle.ledger.specs.declared.Request.{Request}
-use Rattle.ledger.specs.declared.Decision.{Decision}
 use Rattle.ledger.specs.declared.Outcome.{Outcome}
 use Rattle.ledger.specs.declared.TotalAnswer.{TotalAnswer}
-use Rattle.journal.specs.declared.Ran.{Ran}
-use Rattle.journal.specs.declared.Stand.{Stand}
-use Rattle.journal.specs.declared.Step.{Step}
+use Rattle.single.specs.declared.CallDecision.{CallDecision}
+use Rattle.batch.specs.declared.Ran.{Ran}
+use Rattle.batch.specs.declared.Stand.{Stand}
+use Rattle.batch.specs.declared.Step.{Step}
 use Rattle.postings.proofs.Posting as T
 use Rattle.postings.proofs.Posting.Laws as T′
 use Rattle.postings.proofs.Scanned as C
 use Rattle.postings.proofs.Scanned.Laws as C′
-use Rattle.postings.proofs.Plan as P
-use Rattle.postings.proofs.Plan.Laws as P′
 use Rattle.sheet.proofs.Sheet as Z
 use Rattle.sheet.proofs.Sheet.Laws as Z′
 use Rattle.state.proofs.Book as B
 use Rattle.state.proofs.Book.Laws as B′
 use Rattle.ledger.proofs.Asked as D
 use Rattle.ledger.proofs.Asked.Laws as D′
-use Rattle.ledger.proofs.Request as K
-use Rattle.ledger.proofs.Request.Laws as K′
-use Rattle.ledger.proofs.Decision as S
-use Rattle.ledger.proofs.Decision.Laws as S′
 use Rattle.ledger.proofs.Outcome as O
 use Rattle.ledger.proofs.Outcome.Laws as O′
 use Rattle.ledger.proofs.TotalAnswer as U
 use Rattle.ledger.proofs.TotalAnswer.Laws as U′
-use Rattle.journal.proofs.Ran as R
-use Rattle.journal.proofs.Ran.Laws as R′
-use Rattle.journal.proofs.Stand as N
-use Rattle.journal.proofs.Stand.Laws as N′
-use Rattle.journal.proofs.Step as E
-use Rattle.journal.proofs.Step.Laws as E′
+use Rattle.single.proofs.CallDecision as S
+use Rattle.single.proofs.CallDecision.Laws as S′
+use Rattle.batch.proofs.Ran as R
+use Rattle.batch.proofs.Ran.Laws as R′
+use Rattle.batch.proofs.Stand as N
+use Rattle.batch.proofs.Stand.Laws as N′
+use Rattle.batch.proofs.Step as E
+use Rattle.batch.proofs.Step.Laws as E′
 
 -- the machine value of rows
 abbrev pub rows-val : List Posting → Val
@@ -74,9 +68,6 @@ module _ {M : Type 1} (𝓤 : URA M) (H : Heap 𝓤) (A : Atoms 𝓤) (W : Given
   pub typed-scanned : (d : Scanned) (v : Val) → Is C.the-row d (v ∷ []) → Holds (hasTy C′.mir v) × WT v
   typed-scanned d v is = LL.lawful C.the-type C′.the-laws 𝓤 H A W .typed d (v ∷ []) is .0
 
-  pub typed-plan : (d : Plan) (v : Val) → Is P.the-row d (v ∷ []) → Holds (hasTy P′.mir v) × WT v
-  typed-plan d v is = LL.lawful P.the-type P′.the-laws 𝓤 H A W .typed d (v ∷ []) is .0
-
   pub typed-sheet : (d : Sheet) (v : Val) → Is Z.the-row d (v ∷ []) → Holds (hasTy Z′.mir v) × WT v
   typed-sheet d v is = LL.lawful Z.the-type Z′.the-laws 𝓤 H A W .typed d (v ∷ []) is .0
 
@@ -86,10 +77,7 @@ module _ {M : Type 1} (𝓤 : URA M) (H : Heap 𝓤) (A : Atoms 𝓤) (W : Given
   pub typed-asked : (d : Asked) (v : Val) → Is D.the-row d (v ∷ []) → Holds (hasTy D′.mir v) × WT v
   typed-asked d v is = LL.lawful D.the-type D′.the-laws 𝓤 H A W .typed d (v ∷ []) is .0
 
-  pub typed-request : (d : Request) (v : Val) → Is K.the-row d (v ∷ []) → Holds (hasTy K′.mir v) × WT v
-  typed-request d v is = LL.lawful K.the-type K′.the-laws 𝓤 H A W .typed d (v ∷ []) is .0
-
-  pub typed-decision : (d : Decision) (v : Val) → Is S.the-row d (v ∷ []) → Holds (hasTy S′.mir v) × WT v
+  pub typed-decision : (d : CallDecision) (v : Val) → Is S.the-row d (v ∷ []) → Holds (hasTy S′.mir v) × WT v
   typed-decision d v is = LL.lawful S.the-type S′.the-laws 𝓤 H A W .typed d (v ∷ []) is .0
 
   pub typed-outcome : (d : Outcome) (v : Val) → Is O.the-row d (v ∷ []) → Holds (hasTy O′.mir v) × WT v

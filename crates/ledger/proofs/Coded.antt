@@ -1,17 +1,28 @@
 -- Every list of calls is the meaning of some numbers and one text: the texts stand one after the other, each call names its own part, and
 -- its eight numbers stand behind those of the calls before it. They fit machine words where the calls' own numbers and the text's length do.
+-- A number that is no kind asks for one and the same call.
 -- Assumes nothing.
 use mathlib.Core.Path.{_≡_, refl, sym, ap, _∙_}
+use mathlib.Core.Bool.{false}
 use mathlib.Core.List.{List, [], _∷_, _++_, append-assoc}
 use Prim.Native.Nat.{ℕ, zero, suc, _+_, _-_, _*_, _/_, _≤_, _<_}
 use native.Mathlib.Nat.{not-suc-le-zero, zero-add}
 use native.Mathlib.Omega.{arith}
-use borrow.Author.Tests.{lt-ltb}
+use borrow.Author.Tests.{lt-ltb, ne-eqb}
+use lib.Dec.{eqb}
 use lib.ListN.{length, length-append, getD, take as firstOf}
 use lib.Seq.{getD-append-add, drop-append-seam, take-append-seam, ext-getD}
 use Rattle.finite.proofs.Tables.{length-tabulate, getD-tabulate}
+use Rattle.ledger.specs.declared.Asked.{Asked}
 use Rattle.ledger.specs.Ledger.{Call, take, release, move, settle, restate, void}
 use Rattle.ledger.specs.Requests.{partOf, callFor, askedFrom, askedAt, callAt, callsIn, textOf, numbersOf, textsOf, numbersFrom, Below, given, AllBelow}
+
+-- a number that is no kind asks for a void of hour 0, whatever stands beside it
+pub no-kind : (text : List ℕ) (a : Asked) → (1 ≤ a .kind → a .kind ≤ 6 → ⊥) → callFor text a ≡ void 0
+unfolding callFor
+no-kind text a none =
+    let other : (n : ℕ) → n < 6 → eqb (a .kind) (suc n) ≡ false = λ n l. ne-eqb (a .kind) (suc n) (λ e. none (omega arith) (omega arith)) in
+    simp (other 0 (omega arith), other 1 (omega arith), other 2 (omega arith), other 3 (omega arith), other 4 (omega arith), other 5 (omega arith))
 
 -- the part of a text between two others
 part-between : (pre text post : List ℕ) → partOf (pre ++ (text ++ post)) (length pre) (length pre + length text) ≡ text

@@ -37,6 +37,10 @@ use Rattle.ledger.proofs.Held.{held-at}
 abbrev pub after : State → Decision → State
 after st d = record { book = d .book; count = d .count; journal = paste (st .journal) (d .at) (d .plan .row) (d .n) }
 
+-- where nothing is posted, the journal stays
+pub unposted : (st : State) (b : Book) → after st (changedTo b (st .count)) ≡ record { book = b; count = st .count; journal = st .journal }
+unposted st b = ap (λ (j : List Posting). record { book = b; count = st .count; journal = j }) (sym (paste-zero (st .journal) 0 (padded [])))
+
 -- a decision answers as the ledger does, and leaves book and journal in agreement with it
 pub record Follows (sheet : Sheet) (room : ℕ) (st : State) (d : Decision) (o : Outcome) : Type 0 where
   pub answers : replyOf (d .answer) (d .place) ≡ o .reply

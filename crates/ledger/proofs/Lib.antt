@@ -15,8 +15,10 @@ pub mod Simulate
 pub mod Whole
 pub mod Promise
 pub mod Places
+pub mod Parts
 pub mod Onward
 pub mod Coded
 pub mod Fitting
 pub mod Exactly
 pub mod Passed
+pub mod Keeps

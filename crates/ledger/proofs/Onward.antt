@@ -1,10 +1,11 @@
 -- A list of calls with one more call at its end: that call comes upon what the others left, and its reply stands last.
 -- Assumes nothing.
-use mathlib.Core.Path.{_≡_, refl, ap}
+use mathlib.Core.Path.{_≡_}
 use mathlib.Core.List.{List, [], _∷_, _++_}
 use Rattle.sheet.specs.declared.Sheet.{Sheet}
 use Rattle.ledger.specs.Ledger.{Call}
 use Rattle.ledger.specs.Calls.{State, Ran, carriedOut, requestOf, ranFrom}
+use Rattle.ledger.proofs.Parts.{two-parts}
 
 module _ (s : Sheet) (c : Call) where
   -- what one more call makes of a list that ran
@@ -15,7 +16,4 @@ module _ (s : Sheet) (c : Call) where
 
   pub ran-further : (st : State) (cs : List Call) → ranFrom s st (cs ++ (c ∷ [])) ≡ further (ranFrom s st cs)
   unfolding ranFrom
-  ran-further st [] = refl
-  ran-further st (d ∷ cs) =
-      let m = carriedOut s st (requestOf s d) in
-      ap (λ (r : Ran). record { replies = m .reply ∷ r .replies; state = r .state }) (ran-further (m .state) cs)
+  ran-further st cs = two-parts s st cs (c ∷ [])

@@ -25,7 +25,7 @@ use Rattle.ledger.specs.declared.Verdict.{Verdict}
 use Rattle.ledger.specs.declared.Verdict.the-variants.{Accepted as passes, Refused as fails}
 use Rattle.ledger.specs.declared.Request.{Request}
 use Rattle.ledger.specs.declared.Decision.{Decision}
-use Rattle.ledger.specs.Calls.{Row, row, verdict, isSettled, heldKwh, shortOf, textRows, takeRows, releaseRows, moveRows, recordRows, voidRows, requestRows, rowsOf, byVerdict, refusedWith, changedTo, recordedIn, voidedAt, withHeld, acceptedIn, decided, bookFits}
+use Rattle.ledger.specs.Calls.{Row, row, verdict, isSettled, heldKwh, shortOf, textRows, takeRows, releaseRows, moveRows, recordRows, voidRows, requestRows, rowsOf, byVerdict, refusedWith, changedTo, recordedIn, voidedAt, withHeld, acceptedIn, decided, requestDecided, bookFits}
 
 abbrev FitsIn : ℕ → Decision → Type 0
 FitsIn places d = (d .n ≤ 40) × (d .n ≤ places - d .at) × (d .n ≤ length (d .plan .row))
@@ -39,7 +39,7 @@ passed r rs e = by (r .holds) refl e
     by true h p = absurd (let z : _≡_ {A = ℕ} 0 1 = cc in omega arith)
     by false h p = (h, p)
 
-rest : (xs ys : List Row) → verdict (xs ++ ys) ≡ passes → verdict ys ≡ passes
+pub rest : (xs ys : List Row) → verdict (xs ++ ys) ≡ passes → verdict ys ≡ passes
 rest [] ys e = e
 rest (x ∷ xs) ys e = rest xs ys (passed x (xs ++ ys) e .1)
 
@@ -61,7 +61,7 @@ module _ (s : Sheet) (b : Book) (q : Request) (count places : ℕ) where
       let free = ltb-false (min places 100000 - count) (5 * unitCount (s .units)) e in
       (omega (arith, some), omega (arith, free), omega (arith, some, plan-length hour (s .units) old new))
 
-  record-short : (r : Row) → verdict (recordRows s (q .read) r count places) ≡ passes → shortOf (s .units) count places ≡ false
+  pub record-short : (r : Row) → verdict (recordRows s (q .read) r count places) ≡ passes → shortOf (s .units) count places ≡ false
   record-short r e =
       let a = passed _ _ e in
       let c = passed _ _ (a .1) in
@@ -69,7 +69,7 @@ module _ (s : Sheet) (b : Book) (q : Request) (count places : ℕ) where
       let f = passed _ _ (d .1) in
       passed _ _ (f .1) .0
 
-  void-short : verdict (voidRows s b (q .hour) count places) ≡ passes → shortOf (s .units) count places ≡ false
+  pub void-short : verdict (voidRows s b (q .hour) count places) ≡ passes → shortOf (s .units) count places ≡ false
   void-short e =
       let a = passed _ _ e in
       let c = passed _ _ (a .1) in
@@ -126,3 +126,16 @@ module _ (s : Sheet) (b : Book) (q : Request) (count places : ℕ) where
   unfolding decided
   decided-same x y h =
       ap (λ (t : Bool). byVerdict (verdict (row SheetRange (not (sheetHolds s)) ∷ row BookRange (not t) ∷ requestRows s b q count places)) (acceptedIn s b q count) (refusedWith b count (q .start))) (fits-by s b count places x y h)
+
+  -- where it is known whether 9 and 12 hold
+  pub decided-9 : (posted : Bool) → sheetHolds s ≡ false → refusedWith b count (q .start) SheetRange ≡ decided s b q count places posted
+  unfolding decided verdict
+  decided-9 posted e = simp e
+
+  pub decided-12 : (posted : Bool) → sheetHolds s ≡ true → bookFits s b count places posted ≡ false → refusedWith b count (q .start) BookRange ≡ decided s b q count places posted
+  unfolding decided verdict
+  decided-12 posted t e = simp (t, e)
+
+  pub decided-on : (posted : Bool) → sheetHolds s ≡ true → bookFits s b count places posted ≡ true → requestDecided s b q count places ≡ decided s b q count places posted
+  unfolding decided verdict
+  decided-on posted t e = simp (t, e)

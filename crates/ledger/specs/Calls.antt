@@ -262,6 +262,10 @@ pub record Moved : Type 0 where
 abbrev pub decidedOn : Sheet → State → Request → Decision
 decidedOn s st q = decided s (st .book) q (st .count) (length (st .journal)) (postedHold (firstOf (st .count) (st .journal)))
 
+-- 12 does not hold of a book, a count and a list of postings
+abbrev pub fitsIn : Sheet → State → Bool
+fitsIn s st = bookFits s (st .book) (st .count) (length (st .journal)) (postedHold (firstOf (st .count) (st .journal)))
+
 -- the postings go to the places from the count on, and every other place keeps its contents
 abbrev pub journalAfter : List Posting → Decision → List Posting
 journalAfter journal d = paste journal (d .at) (d .plan .row) (d .n)

@@ -1,35 +1,14 @@
--- The requests of the calls by name, and a list of calls in numbers: eight for each call, its kind, hour, unit, the unit moved to, kWh, the part
--- of the lent text that it is given (from `begin` to before `end`), and where its record starts in that part. Kinds 1 to 5 are take, release,
--- move, settle and restate; every other number is void.
+-- A list of calls in numbers: eight for each call, its kind, hour, unit, the unit moved to, kWh, the part
+-- of the lent text that it is given (from `begin` to before `end`), and where its record starts in that part. Kinds 1 to 6 are take, release,
+-- move, settle, restate and void. A number that is no kind is a void of hour 0, which 10 refuses after 9 and 12, whatever hour stands beside it.
 use Prim.Native.Nat.{ℕ, _+_, _-_, _*_, _/_, _<_}
 use mathlib.Core.Bool.{cond}
 use mathlib.Core.List.{List, [], _∷_, _++_}
 use lib.Dec.{ltb, eqb}
 use lib.ListN.{length, getD, drop, take as firstOf}
 use Rattle.finite.specs.Finite.{tabulate}
-use Rattle.sheet.specs.declared.Sheet.{Sheet}
 use Rattle.ledger.specs.declared.Asked.{Asked}
-use Rattle.ledger.specs.declared.Request.{Request}
 use Rattle.ledger.specs.Ledger.{Call, take, release, move, settle, restate, void}
-use Rattle.ledger.specs.Calls.{plainRequest, recordRequest, requestOf}
-
-unfoldable pub takeRequest : (hour unit kwh : ℕ) → Request
-takeRequest hour unit kwh = plainRequest 1 hour unit 0 kwh
-
-unfoldable pub releaseRequest : (hour unit kwh : ℕ) → Request
-releaseRequest hour unit kwh = plainRequest 2 hour unit 0 kwh
-
-unfoldable pub moveRequest : (hour from to kwh : ℕ) → Request
-moveRequest hour from to kwh = plainRequest 3 hour from to kwh
-
-unfoldable pub voidRequest : (hour : ℕ) → Request
-voidRequest hour = plainRequest 6 hour 0 0 0
-
-unfoldable pub settleRequest : Sheet → List ℕ → (start : ℕ) → Request
-settleRequest s text start = recordRequest s 4 text start
-
-unfoldable pub restateRequest : Sheet → List ℕ → (start : ℕ) → Request
-restateRequest s text start = recordRequest s 5 text start
 
 abbrev pub callNumbers : ℕ
 callNumbers = 8
@@ -45,7 +24,8 @@ callFor text a =
     (cond (eqb (a .kind) 2) (release (a .hour) (a .unit) (a .kwh))
     (cond (eqb (a .kind) 3) (move (a .hour) (a .unit) (a .to) (a .kwh))
     (cond (eqb (a .kind) 4) (settle (partOf text (a .begin) (a .end)) (a .start))
-    (cond (eqb (a .kind) 5) (restate (partOf text (a .begin) (a .end)) (a .start)) (void (a .hour))))))
+    (cond (eqb (a .kind) 5) (restate (partOf text (a .begin) (a .end)) (a .start))
+    (cond (eqb (a .kind) 6) (void (a .hour)) (void 0))))))
 
 -- the eight numbers from a place on; a place past the end has 0
 abbrev pub askedFrom : List ℕ → ℕ → Asked
@@ -70,9 +50,6 @@ askedAt calls i = cond (ltb i (length calls / callNumbers)) (askedFrom calls (ca
 
 unfoldable pub callAt : (calls text : List ℕ) → (i : ℕ) → Call
 callAt calls text i = callFor text (askedAt calls i)
-
-unfoldable pub requestAt : Sheet → (calls text : List ℕ) → (i : ℕ) → Request
-requestAt s calls text i = requestOf s (callAt calls text i)
 
 -- the first n calls of the numbers
 abbrev pub callsIn : (calls text : List ℕ) → (n : ℕ) → List Call

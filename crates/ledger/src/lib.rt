@@ -55,8 +55,8 @@ pub enum Answer {
     Refused(Refusal),
 }
 
-// A call: kinds 1 to 5 are take, release, move, settle and restate, every other number is void. Settle and restate carry what was
-// read of the record's text from `start` on.
+// A call: kinds 1 to 6 are take, release, move, settle, restate and void. Settle and restate carry what was read of the record's text from
+// `start` on.
 pub struct Request {
     pub kind: u64,
     pub hour: u64,
@@ -68,8 +68,8 @@ pub struct Request {
     pub read: Record,
 }
 
-// A call in numbers, as a list of calls has it: the kind as above, and the part of the lent text that the call is given, from `begin` to before
-// `end`; a record starts at `start` in that part.
+// A call in numbers, as a list of calls has it: the kind as above, where every other number asks for a void of hour 0, which is refused; and the
+// part of the lent text that the call is given, from `begin` to before `end`; a record starts at `start` in that part.
 pub struct Asked {
     pub kind: u64,
     pub hour: u64,

@@ -4,3 +4,5 @@ pub mod Counted
 pub mod Totals
 pub mod Scan
 pub mod Posted
+pub mod Places
+pub mod Entries

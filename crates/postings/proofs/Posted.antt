@@ -42,7 +42,7 @@ append-either P l m first second j = by (ltb j (length l)) refl
         (rw (getD-append-add l m (j - length l) noPosting) (second (j - length l)))
 
 -- a place that is in the plant is no place outside it
-clash : (units : ℕ) {k n : ℕ} → memberAt units k ≡ true → memberAt units n ≡ false → k ≡ n → ⊥
+pub clash : (units : ℕ) {k n : ℕ} → memberAt units k ≡ true → memberAt units n ≡ false → k ≡ n → ⊥
 clash units m t e = let z : true ≡ false = sym m ∙ ap (memberAt units) e ∙ t in let y : _≡_ {A = ℕ} 0 1 = cc in omega arith
 
 -- another place than k does not change whether k is below

@@ -1,12 +1,19 @@
-// Postings: the count and the scan of those up to it, and the postings of one call.
+// Postings: the count and the scan of those up to it, and the postings of a batch of calls.
 ghost use mathlib.Core.Path.{_≡_};
-ghost use Prim.Native.Nat.{_≤_, _<_, min};
-ghost use lib.IntN.{natAbs, _-ℤ_};
-ghost use Rattle.state.specs.Sizes.{places, items};
-ghost use Rattle.state.specs.Ranges.{mostAmount, ItemsWithin, AmountsWithin};
+ghost use Prim.Native.Nat.{_*_, _≤_, min};
+ghost use lib.ListN.{length};
 ghost use Rattle.postings.specs.Journal.{noPosting, countHolds, coveredBy, isOf, scannedWith, scannedNone};
-ghost use Rattle.postings.specs.Plan.{postingOf, planOf};
-use settlement::Amounts;
+ghost use Rattle.postings.specs.Plan.{planRows};
+ghost use Rattle.postings.specs.Entries.{mostEntries, PlacesOf, EntryRows};
+
+// How many entries a batch of calls can have: one for each call that posts.
+pub const ENTRIES: usize = 16;
+
+// An entry's amounts, by place and item.
+pub const ENTRY_ITEMS: usize = 40;
+
+// The postings of a batch at most.
+pub const ROWS: usize = 640;
 
 // An amount posted for a unit's item in an hour, in Rial. Hour, unit and item are counted from 1.
 pub struct Posting {
@@ -105,49 +112,44 @@ pub fn scanned_with(s: Scanned, x: Posting, unit: u64, item: u64) -> Scanned
     }
 }
 
-// The new amount less the old one.
-fn difference(new: i64, old: i64) -> i64
-    requires { ⌜ (natAbs new ≤ mostAmount) × (natAbs old ≤ mostAmount) ⌝ }
-    ensures { λ r. ⌜ r ≡ new -ℤ old ⌝ }
+// The places of the plant's units, ascending, then 0.
+fn places_of(units: u64) -> [usize; 8]
+    ensures { λ r. ⌜ PlacesOf units r ⌝ }
 {
-    new - old
-}
-
-// The posting of item i, counted from 0, of the unit of place k.
-fn posting_of(hour: u64, k: usize, old: Amounts, new: Amounts, i: usize) -> Posting
-    requires { ⌜ (k < places) × (i < items) × ItemsWithin old × ItemsWithin new ⌝ }
-    ensures { λ r. ⌜ r ≡ postingOf hour k old new i ⌝ }
-{
-    let unit = k as u64 + 1;
-    let amount = difference(new.item[i], old.item[i]);
-    Posting {
-        hour: hour,
-        unit: unit,
-        item: i as u64 + 1,
-        amount: amount,
-    }
-}
-
-// The postings of a call for an hour of 1 to 24: for each unit of the plant and each item, the new amount less the old one.
-pub fn plan_of(hour: u64, units: u64, old: [Amounts; 8], new: [Amounts; 8]) -> Plan
-    requires { ⌜ AmountsWithin units old × AmountsWithin units new ⌝ }
-    ensures { λ r. ⌜ r ≡ planOf hour units old new ⌝ }
-{
-    let mut row = [no_posting(); 40];
-    let mut at: usize = 0;
-    let mut k: usize = 0;
-    while k < 8 {
-        if units::member_at(units, k) {
-            let before = old[k];
-            let after = new[k];
-            row[at] = posting_of(hour, k, before, after, 0);
-            row[at + 1] = posting_of(hour, k, before, after, 1);
-            row[at + 2] = posting_of(hour, k, before, after, 2);
-            row[at + 3] = posting_of(hour, k, before, after, 3);
-            row[at + 4] = posting_of(hour, k, before, after, 4);
-            at += 5;
+    let mut place = [0usize; 8];
+    let mut m: usize = 0;
+    let mut p: usize = 0;
+    while p < 8 {
+        if units::member_at(units, p) {
+            place[m] = p;
+            m += 1;
         }
+        p += 1;
+    }
+    place
+}
+
+// The postings of the first entries, five a unit, in order: of each unit of the plant and each item the amount that the entry has for it.
+pub fn rows_of(units: u64, hours: &[u64], amounts: &[i64], filled: usize) -> [Posting; ROWS]
+    requires { ⌜ (units ≤ 255) × (filled ≤ mostEntries) × (length (now hours) ≡ mostEntries) × (length (now amounts) ≡ mostEntries * planRows) ⌝ }
+    ensures { λ r. ⌜ EntryRows units (now (hours .entry)) (now (amounts .entry)) filled r ⌝ }
+{
+    let place = places_of(units);
+    let size = 5 * units::unit_count(units) as usize;
+    let n = size * filled;
+    let mut row = [no_posting(); ROWS];
+    let mut k: usize = 0;
+    while k < n {
+        let e = k / size;
+        let w = k % size;
+        let p = place[w / 5];
+        row[k] = Posting {
+            hour: hours[e],
+            unit: p as u64 + 1,
+            item: (w % 5) as u64 + 1,
+            amount: amounts[ENTRY_ITEMS * e + 5 * p + w % 5],
+        };
         k += 1;
     }
-    Plan { row: row }
+    row
 }

@@ -3,4 +3,3 @@ pub mod Ready
 pub mod Sizes
 pub mod Laws
 pub mod Taken
-pub mod Offers

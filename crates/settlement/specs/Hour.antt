@@ -14,7 +14,7 @@ use Rattle.units.specs.Units.{memberAt, isLowest}
 use Rattle.offer.specs.declared.Offer.{Offer}
 use Rattle.offer.specs.Modified.{costTo}
 use Rattle.sheet.specs.declared.Sheet.{Sheet}
-use Rattle.sheet.specs.Ranges.{unitAt as sheetUnit, offerAt}
+use Rattle.sheet.specs.Ranges.{unitAt as sheetUnit, offerAt, monthlyOf}
 use Rattle.record.specs.declared.UnitRecord.{UnitRecord}
 use Rattle.record.specs.declared.Record.{Record}
 use Rattle.record.specs.Spans.{unitAt as recordUnit}
@@ -25,6 +25,7 @@ use Rattle.formulas.specs.Items.{paid, owed, energyPay, availability, inSeason,
 use Rattle.settlement.specs.declared.Rates.{Rates}
 use Rattle.settlement.specs.declared.Amounts.{Amounts}
 use Rattle.settlement.specs.declared.HourResult.{HourResult}
+use Rattle.settlement.specs.declared.DayTerms.{DayTerms}
 use Rattle.settlement.specs.declared.HourSheet.{HourSheet}
 use Rattle.settlement.specs.Deviation.{deviationsOf}
 
@@ -61,6 +62,32 @@ hourSheetWith sheet hour offer =
 
 abbrev pub hourOffers : Sheet → ℕ → List Offer
 hourOffers sheet h = tabulate 8 (λ k. offerAt (sheetUnit (sheet .unit) k) h)
+
+-- for the code: what a day's settlements use of the sheet, but for the offers, and of it an hour's
+unfoldable pub termsOf : Sheet → DayTerms
+termsOf sheet =
+    record {
+      season = inSeason (sheet .month) (sheet .day);
+      loss = sheet .loss;
+      bar = sheet .bar;
+      ceiling = sheet .ceiling;
+      cpf = sheet .cpf;
+      units = sheet .units;
+      own = tabulate 8 (λ k. sheetUnit (sheet .unit) k .own);
+      nominal = tabulate 8 (λ k. sheetUnit (sheet .unit) k .nominal);
+      monthly = monthlyOf sheet;
+    }
+
+abbrev pub hourTerms : DayTerms → ℕ → List Offer → HourSheet
+hourTerms terms hour offer =
+    record {
+      rates = record { season = terms .season; loss = terms .loss; bar = terms .bar; cpf = getD (terms .cpf) (hour - 1) 0 };
+      ceiling = terms .ceiling;
+      units = terms .units;
+      own = terms .own;
+      nominal = terms .nominal;
+      offer = offer;
+    }
 
 pub hourSheet : Sheet → ℕ → HourSheet
 hourSheet sheet hour = hourSheetWith sheet hour (hourOffers sheet (hour - 1))

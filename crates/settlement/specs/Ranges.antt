@@ -2,8 +2,8 @@
 use mathlib.Core.Path.{_≡_}
 use mathlib.Core.Bool.{Bool, true, cond}
 use mathlib.Core.List.{List}
-use Prim.Native.Nat.{ℕ, _/_, _%_, _≤_, _<_}
-use lib.ListN.{length, getD}
+use Prim.Native.Nat.{ℕ, _≤_}
+use lib.ListN.{getD}
 use Rattle.finite.specs.Finite.{tabulate, every}
 use Rattle.energy.specs.declared.HubKwh.{HubKwh}
 use Rattle.energy.specs.declared.HubGrains.{HubGrains}
@@ -11,7 +11,7 @@ use Rattle.units.specs.Units.{memberAt, isLowest}
 use Rattle.offer.specs.declared.Offer.{Offer}
 use Rattle.offer.specs.Offer.{offerHolds, pastOffer}
 use Rattle.sheet.specs.declared.Sheet.{Sheet}
-use Rattle.sheet.specs.Ranges.{sheetHolds, unitAt as sheetUnit, offerAt}
+use Rattle.sheet.specs.Ranges.{sheetHolds}
 use Rattle.record.specs.declared.UnitRecord.{UnitRecord}
 use Rattle.record.specs.declared.Record.{Record}
 use Rattle.record.specs.Spans.{pastUnit, unitAt as recordUnit}
@@ -105,8 +105,3 @@ hourBy day r commitment =
 
 unfoldable pub proportionsBy : (units : ℕ) → List ℕ → Record → Bool
 proportionsBy units own r = every 8 (λ k. cond (memberAt units k) (unitProportioned (getD own k 0) (recordUnit r k)) true)
-
--- for the code: a list of the sheet's offers, which has those of the first n places in all hours: that of hour h and place k at 8 * h + k
-pub record Listed (sheet : Sheet) (n : ℕ) (l : List Offer) : Type 0 where
-  pub long : length l ≡ 192
-  pub entry : (j : ℕ) → j < 192 → j % 8 < n → getD l j pastOffer ≡ offerAt (sheetUnit (sheet .unit) (j % 8)) (j / 8)

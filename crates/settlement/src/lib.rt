@@ -12,20 +12,19 @@ use record::Record;
 use record::Span;
 use record::UnitRecord;
 use sheet::Sheet;
-use sheet::UnitSheet;
 ghost use mathlib.Core.Path.{_≡_};
 ghost use mathlib.Core.Bool.{true, cond};
 ghost use Prim.Native.Nat.{ℕ, _+_, _-_, _≤_, _<_};
 ghost use Rattle.finite.specs.Finite.{tabulate};
 ghost use Rattle.units.specs.Units.{memberAt, isLowest};
 ghost use Rattle.offer.specs.Offer.{offerHolds};
-ghost use Rattle.sheet.specs.Ranges.{unitAt as «sheet_unit», offerAt};
+ghost use Rattle.sheet.specs.Ranges.{unitAt as «sheet_unit»};
 ghost use Rattle.record.specs.Spans.{unitAt as «record_unit»};
 ghost use Rattle.record.specs.InRange.{SpanInRange, UnitInRange, InRange};
 ghost use Rattle.settlement.specs.Deviation.{shortMinutes, proportions as «the_proportions», deviationsBy, deviationsOf};
-ghost use Rattle.settlement.specs.Hour.{noAmounts, ratesOf, energyItem, availabilityItem, refundItem, testItem, amountsOf, hourSheetWith, hourSheet};
+ghost use Rattle.settlement.specs.Hour.{noAmounts, energyItem, availabilityItem, refundItem, testItem, amountsOf, termsOf, hourTerms};
 ghost use Rattle.settlement.specs.Refusals.{readingsTotal, allMeasured, readingsHold, noProportion, unitProportioned};
-ghost use Rattle.settlement.specs.Ranges.{HourGiven, HourDue, RatesReady, SplitReady, UnitReady, UnitsReady, placeAmounts, plantBy, hourBy, proportionsBy, Listed};
+ghost use Rattle.settlement.specs.Ranges.{HourGiven, HourDue, RatesReady, SplitReady, UnitReady, UnitsReady, placeAmounts, plantBy, hourBy, proportionsBy};
 
 // The number of items of a unit.
 pub const ITEMS: usize = 5;
@@ -37,6 +36,20 @@ pub struct Rates {
     pub loss: u64,
     pub bar: u64,
     pub cpf: u64,
+}
+
+// What the settlements of a day use of the sheet, but for the offers, by place. It is taken out once for a list of calls, so that the sheet is not
+// handed on.
+pub struct DayTerms {
+    pub season: bool,
+    pub loss: u64,
+    pub bar: u64,
+    pub ceiling: u64,
+    pub cpf: [u64; 24],
+    pub units: u64,
+    pub own: [u64; 8],
+    pub nominal: [GrossKwh; 8],
+    pub monthly: [GrossKwh; 8],
 }
 
 // What an hour's settlement uses of the sheet, by place: each unit's own use, nominal power and offer of the hour.
@@ -289,31 +302,6 @@ fn nominal_of(sheet: Sheet) -> [GrossKwh; 8]
     nominal
 }
 
-// A unit's offer of an hour, counted from 0.
-fn offer_at(u: UnitSheet, h: usize) -> Offer
-    requires { ⌜ h < 24 ⌝ }
-    ensures { λ r. ⌜ r ≡ offerAt u h ⌝ }
-{
-    u.offers[h]
-}
-
-// Each unit's offer of an hour.
-fn offers_of(sheet: Sheet, h: usize) -> [Offer; 8]
-    requires { ⌜ h < 24 ⌝ }
-    ensures { λ r. ⌜ r ≡ tabulate 8 (λ (k : ℕ). offerAt («sheet_unit» (sheet .unit) k) h) ⌝ }
-{
-    [
-        offer_at(sheet.unit[0], h),
-        offer_at(sheet.unit[1], h),
-        offer_at(sheet.unit[2], h),
-        offer_at(sheet.unit[3], h),
-        offer_at(sheet.unit[4], h),
-        offer_at(sheet.unit[5], h),
-        offer_at(sheet.unit[6], h),
-        offer_at(sheet.unit[7], h),
-    ]
-}
-
 // Each unit's `real`.
 fn real_of(hour: Record) -> [NetKwh; 8]
     ensures { λ r. ⌜ r ≡ tabulate 8 (λ (k : ℕ). «record_unit» hour k .real) ⌝ }
@@ -329,63 +317,45 @@ fn real_of(hour: Record) -> [NetKwh; 8]
     real
 }
 
-// What the formulas use of the sheet in an hour.
-fn rates_of(sheet: Sheet, hour: u64) -> Rates
-    requires { ⌜ (1 ≤ hour) × (hour ≤ 24) ⌝ }
-    ensures { λ r. ⌜ r ≡ ratesOf sheet hour ⌝ }
+// What a day's settlements use of the sheet.
+pub fn terms_of(sheet: Sheet) -> DayTerms
+    ensures { λ r. ⌜ r ≡ termsOf sheet ⌝ }
 {
-    let h = (hour - 1) as usize;
     let cpf = sheet.cpf;
-    Rates {
+    DayTerms {
         season: formulas::in_season(sheet.month, sheet.day),
         loss: sheet.loss,
         bar: sheet.bar,
-        cpf: cpf[h],
-    }
-}
-
-// What the settlement of an hour, 1 to 24, uses of the sheet, with the units' offers of that hour.
-pub fn hour_sheet_with(sheet: Sheet, hour: u64, offer: [Offer; 8]) -> HourSheet
-    requires { ⌜ (1 ≤ hour) × (hour ≤ 24) ⌝ }
-    ensures { λ r. ⌜ r ≡ hourSheetWith sheet hour offer ⌝ }
-{
-    HourSheet {
-        rates: rates_of(sheet, hour),
         ceiling: sheet.ceiling,
+        cpf,
         units: sheet.units,
         own: own_of(sheet),
         nominal: nominal_of(sheet),
-        offer: offer,
+        monthly: sheet::monthly_of(sheet),
     }
 }
 
-// What the settlement of an hour, 1 to 24, uses of the sheet. It is taken out once, so that the sheet is not handed on.
-pub fn hour_sheet(sheet: Sheet, hour: u64) -> HourSheet
+// What an hour's settlement uses of the sheet, with the units' offers of the hour.
+pub fn hour_sheet(terms: DayTerms, hour: u64, offer: [Offer; 8]) -> HourSheet
     requires { ⌜ (1 ≤ hour) × (hour ≤ 24) ⌝ }
-    ensures { λ r. ⌜ r ≡ hourSheet sheet hour ⌝ }
+    ensures { λ r. ⌜ r ≡ hourTerms terms hour offer ⌝ }
 {
     let h = (hour - 1) as usize;
-    let offer = offers_of(sheet, h);
-    hour_sheet_with(sheet, hour, offer)
-}
-
-// All offers of the sheet, by hour and place as the book has its entries: that of hour h and place k, both from 0, at 8 * h + k.
-pub fn all_offers(sheet: Sheet) -> [Offer; 192]
-    ensures { λ r. ⌜ Listed sheet 8 r ⌝ }
-{
-    let mut offers = [offer::no_offer(); 192];
-    let mut k: usize = 0;
-    while k < 8 {
-        let u = sheet.unit[k];
-        let mut h: usize = 0;
-        while h < 24 {
-            let o = u.offers[h];
-            offers[8 * h + k] = o;
-            h += 1;
-        }
-        k += 1;
+    let own = terms.own;
+    let nominal = terms.nominal;
+    HourSheet {
+        rates: Rates {
+            season: terms.season,
+            loss: terms.loss,
+            bar: terms.bar,
+            cpf: terms.cpf[h],
+        },
+        ceiling: terms.ceiling,
+        units: terms.units,
+        own,
+        nominal,
+        offer,
     }
-    offers
 }
 
 // What the allocation rests on in the record's hour.

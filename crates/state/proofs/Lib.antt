@@ -1,7 +1,5 @@
 pub mod Bounds
 pub mod Entries
-pub mod Hour
-pub mod Taken
 pub mod Commitments
 pub mod Marks
 pub mod Empty

@@ -13,7 +13,6 @@ use Rattle.units.specs.Units.{memberAt}
 use Rattle.settlement.specs.declared.Amounts.{Amounts}
 use Rattle.settlement.specs.declared.HourResult.{HourResult}
 use Rattle.state.specs.declared.Book.{Book}
-use Rattle.state.specs.declared.HourEntry.{HourEntry}
 use Rattle.state.specs.Sizes.{hours, places, items, entries, entryOf}
 
 -- no energy
@@ -63,10 +62,6 @@ hourCommitments b h = tabulate places (commitmentAt b h)
 
 unfoldable pub hourAmounts : Book → ℕ → List Amounts
 hourAmounts b h = tabulate places (amountsAt b h)
-
--- the same with the hour's mark
-abbrev pub hourEntry : Book → ℕ → HourEntry
-hourEntry b h = record { mark = markAt b h; commitment = hourCommitments b h; amounts = hourAmounts b h }
 
 -- how many entries a book has
 pub record Sized (b : Book) : Type 0 where

@@ -7,8 +7,8 @@ ghost use Rattle.finite.specs.Finite.{every};
 ghost use Rattle.units.specs.Units.{memberAt};
 ghost use Rattle.sheet.specs.Ranges.{unitAt};
 ghost use Rattle.state.specs.Sizes.{hours, places, entries, entryOf};
-ghost use Rattle.state.specs.Book.{commitmentAt, markAt, energyAt, amountsAt, hourEntry, emptyBook, noResult, withHour};
-ghost use Rattle.state.specs.Ranges.{within as «is_within», limitOf, limitAt, kwhOf, keptTo, marksHold, energiesHold, itemsHold, amountsHold, bookHolds};
+ghost use Rattle.state.specs.Book.{commitmentAt, markAt, energyAt, amountsAt, emptyBook, noResult};
+ghost use Rattle.state.specs.Ranges.{within as «is_within», limitOf, kwhOf, keptTo, marksHold, energiesHold, itemsHold, amountsHold, bookHolds};
 use energy::HubGrains;
 use energy::HubKwh;
 use offer::Offer;
@@ -23,13 +23,6 @@ pub struct Book {
     pub mark: [u64; 24],
     pub energy: [HubGrains; 192],
     pub amounts: [Amounts; 192],
-}
-
-// What a book has of an hour, by place: its mark, the commitments, and the amounts stored.
-pub struct HourEntry {
-    pub mark: u64,
-    pub commitment: [HubKwh; 8],
-    pub amounts: [Amounts; 8],
 }
 
 // No commitments, all hours open.
@@ -88,48 +81,6 @@ pub fn amounts_at(book: Book, h: usize, k: usize) -> Amounts
     amounts[8 * h + k]
 }
 
-// What a book has of an hour. It is taken out once, so that the book is not handed on.
-pub fn hour_entry(book: Book, h: usize) -> HourEntry
-    requires { ⌜ h < hours ⌝ }
-    ensures { λ r. ⌜ r ≡ hourEntry book h ⌝ }
-{
-    let mut commitment = [HubKwh(0); 8];
-    let mut amounts = [settlement::no_amounts(); 8];
-    let mut k: usize = 0;
-    while k < 8 {
-        let kwh = book.commitment[8 * h + k];
-        let its = book.amounts[8 * h + k];
-        commitment[k] = kwh;
-        amounts[k] = its;
-        k += 1;
-    }
-    HourEntry {
-        mark: book.mark[h],
-        commitment: commitment,
-        amounts: amounts,
-    }
-}
-
-// The book with an hour's mark and the energies and amounts of the plant's units replaced.
-pub fn with_hour(book: Book, h: usize, mark: u64, units: u64, result: HourResult) -> Book
-    requires { ⌜ h < hours ⌝ }
-    ensures { λ r. ⌜ r ≡ withHour book h mark units result ⌝ }
-{
-    let mut b = book;
-    b.mark[h] = mark;
-    let mut k: usize = 0;
-    while k < 8 {
-        if units::member_at(units, k) {
-            let grains = result.energy[k];
-            let amounts = result.amounts[k];
-            b.energy[8 * h + k] = grains;
-            b.amounts[8 * h + k] = amounts;
-        }
-        k += 1;
-    }
-    b
-}
-
 // Whether an amount lies between -most and most.
 pub fn within(amount: i64, most: u64) -> bool
     requires { ⌜ most < 2 ^ 63 ⌝ }
@@ -152,18 +103,8 @@ pub fn limit_of(member: bool, offer: Offer) -> HubKwh
     HubKwh(0)
 }
 
-// The same, by the sheet.
-pub fn limit_at(sheet: Sheet, h: usize, k: usize) -> HubKwh
-    requires { ⌜ (h < hours) × (k < places) ⌝ }
-    ensures { λ r. ⌜ r ≡ limitAt sheet h k ⌝ }
-{
-    let u = sheet.unit[k];
-    let o = u.offers[h];
-    limit_of(units::member_at(sheet.units, k), o)
-}
-
 // The commitments as numbers.
-fn kwh_of(commitment: [HubKwh; 192]) -> [u64; 192]
+pub fn kwh_of(commitment: [HubKwh; 192]) -> [u64; 192]
     ensures { λ r. ⌜ r ≡ kwhOf commitment ⌝ }
 {
     let mut kwh = [0u64; 192];

@@ -1,10 +1,12 @@
--- By how the sheet was read. What is written from the start of the buffer on are its first bytes.
+-- By how the sheet was read; a sheet that was read passes 9. What is written from the start of the buffer on are its first bytes.
 -- Assumes nothing.
 use Prim.Native.Nat.{ℕ}
 use mathlib.Core.Path.{ap, sym, _∙_}
 use native.Mathlib.Omega.{arith}
 use Rattle.lines.specs.declared.ReadAnswer.{ReadAnswer}
 use Rattle.sheet.specs.declared.SheetRead.{SheetRead}
+use Rattle.sheet.specs.Ranges.{sheetHolds}
+use Rattle.sheet.proofs.Laws.{read-holds}
 use Rattle.decimal.specs.Output.{output, written}
 use Rattle.decimal.proofs.Filled.{written-filled}
 use Rattle.listing.specs.Listing.{refusalLine}
@@ -21,7 +23,10 @@ enum-known-answer : tie.Need-enum-known-answer
 enum-known-answer c = search needs
 
 day-of-requires : tie.Need-day-of-requires
-day-of-requires c κs = search needs
+day-of-requires c κs =
+    let e = c .before .before .before .before .before .read-sheet .ensures in
+    ap (λ (x : SheetRead). sheetHolds (x .sheet)) e
+    ∙ read-holds _ 0 _ (sym (ap (λ (x : SheetRead). x .answer) e) ∙ c .before .before .answer .given .1)
 
 put-day-requires : tie.Need-put-day-requires
 put-day-requires c κs = search needs

@@ -48,7 +48,7 @@ use Rattle.ledger.specs.declared.Outcome.{Outcome}
 use Rattle.ledger.specs.declared.TotalAnswer.{TotalAnswer}
 use Rattle.asks.specs.declared.Asking.{Asking}
 use Rattle.daybook.specs.declared.Stand.{Stand}
-use Rattle.journal.specs.Journal.{Performed}
+use Rattle.single.specs.Journal.{Performed}
 use Rattle.ledger.specs.Total.{totalOn}
 use Rattle.daybook.specs.Turns.{askedNext}
 use Rattle.daybook.specs.Running.{Running, Told, calledBy, toldTo, turned}

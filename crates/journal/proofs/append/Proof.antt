@@ -1,4 +1,4 @@
--- `journal::append` meets its contract: it appends the rows of one call, out of 40.
+-- `journal::append` meets its contract: it appends rows, out of 640.
 -- Assumes nothing.
 use Rattle.journal.proofs.Appended.{appended}
 use Rattle.journal.proofs.append.Key.{name}
@@ -7,4 +7,4 @@ use Rattle.journal.proofs.append.Code as code
 
 pub append-spec : {M : Type 1} → stated.statement M
 unfolding code.routine
-append-spec 𝓤 H 𝓜 𝓖 𝓡 = appended 40 𝓤 H 𝓜 𝓖 𝓡 code.env name (code.unfolded 𝓤 H 𝓜 𝓡)
+append-spec 𝓤 H 𝓜 𝓖 𝓡 = appended 640 𝓤 H 𝓜 𝓖 𝓡 code.env name (code.unfolded 𝓤 H 𝓜 𝓡)

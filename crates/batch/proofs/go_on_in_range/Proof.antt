@@ -1,0 +1,89 @@
+-- Some calls are carried out on the book's numbers, and their entries are their postings (proofs/Going.antt).
+-- Assumes nothing.
+use mathlib.Core.Path.{_≡_, refl, sym, ap, _∙_}
+use native.Mathlib.Omega.{arith}
+use lib.ListN.{length, length-set, length-map}
+use Rattle.engine.specs.Table.{Long}
+use Rattle.batch.specs.declared.Step.{Step}
+use Rattle.batch.specs.Stands.{tableOf, Goes}
+use Rattle.batch.proofs.Going.{units-most, batch-ready, count-grows, batch-goes}
+use borrow.Author.Needs.{needs}
+use Rattle.batch.proofs.go_on_in_range.Statement.{statement}
+use Rattle.batch.proofs.go_on_in_range.Tie as tie
+
+terms-of-requires : tie.Need-terms-of-requires
+terms-of-requires c κs = search needs
+
+offer-numbers-requires : tie.Need-offer-numbers-requires
+offer-numbers-requires c κs = search needs
+
+-- a stand has as many numbers as its type says
+long : (c : tie.Start) → Long (tableOf (c .args .stand))
+long c = record { commitment = simp length-map at (c .good .1 .1 .1 .1 .1 .1 .0 .1 .1 .1 .1 .1 .0 .1 .0 .1); mark = simp length-map at (c .good .1 .1 .1 .1 .1 .1 .0 .1 .1 .1 .1 .1 .1 .0 .1 .0 .1); energy = simp length-map at (c .good .1 .1 .1 .1 .1 .1 .0 .1 .1 .1 .1 .1 .1 .1 .0 .1 .0 .1); amounts = simp length-map at (c .good .1 .1 .1 .1 .1 .1 .0 .1 .1 .1 .1 .1 .1 .1 .1 .0 .1 .0 .1) }
+
+slice-aggregate-run-batch : tie.Need-slice-aggregate-run-batch
+slice-aggregate-run-batch c = sym (long (c .before .before .before .before .before .before .before .before .before .before) .commitment)
+
+slice-aggregate-run-batch-2 : tie.Need-slice-aggregate-run-batch-2
+slice-aggregate-run-batch-2 c = sym (long (c .before .before .before .before .before .before .before .before .before .before .before) .mark)
+
+slice-aggregate-run-batch-3 : tie.Need-slice-aggregate-run-batch-3
+slice-aggregate-run-batch-3 c = sym (long (c .before .before .before .before .before .before .before .before .before .before .before .before) .energy)
+
+slice-aggregate-run-batch-4 : tie.Need-slice-aggregate-run-batch-4
+slice-aggregate-run-batch-4 c = sym (long (c .before .before .before .before .before .before .before .before .before .before .before .before .before) .amounts)
+
+slice-aggregate-run-batch-5 : tie.Need-slice-aggregate-run-batch-5
+slice-aggregate-run-batch-5 c = search needs
+
+slice-aggregate-run-batch-6 : tie.Need-slice-aggregate-run-batch-6
+slice-aggregate-run-batch-6 c = search needs
+
+slice-aggregate-run-batch-7 : tie.Need-slice-aggregate-run-batch-7
+slice-aggregate-run-batch-7 c = search needs
+
+run-batch-requires : tie.Need-run-batch-requires
+run-batch-requires c κs = batch-ready _ _ _ _ _ _ (c .before .before .before .before .before .before .before .before .before .before .before .before .before .before .before .before .before .args .stand) (c .before .before .before .before .before .before .before .before .before .before .before .before .before .before .before .before .before .pre .0) (c .before .before .before .before .before .before .before .before .before .before .before .before .before .before .before .before .before .pre .1) _ _ (c .before .before .before .before .before .before .before .before .before .before .before .before .before .terms-of .ensures) (c .before .before .before .before .before .before .before .before .before .before .before .before .offer-numbers .ensures) _ _ (long (c .before .before .before .before .before .before .before .before .before .before .before .before .before .before .before .before .before)) refl refl
+
+slice-aggregate-rows-of : tie.Need-slice-aggregate-rows-of
+slice-aggregate-rows-of c = search needs
+
+slice-aggregate-rows-of-2 : tie.Need-slice-aggregate-rows-of-2
+slice-aggregate-rows-of-2 c = search needs
+
+rows-of-requires : tie.Need-rows-of-requires
+rows-of-requires c κs = (units-most _ _ _ _ _ _ (c .before .before .before .before .before .before .before .before .before .before .before .before .before .before .before .before .before .before .before .before .before .before .before .before .before .before .before .before .args .stand) (c .before .before .before .before .before .before .before .before .before .before .before .before .before .before .before .before .before .before .before .before .before .before .before .before .before .before .before .before .pre .0) (c .before .before .before .before .before .before .before .before .before .before .before .before .before .before .before .before .before .before .before .before .before .before .before .before .before .before .before .before .pre .1) _ _ (c .before .before .before .before .before .before .before .before .before .before .before .before .before .before .before .before .before .before .before .before .before .before .before .before .terms-of .ensures) (c .before .before .before .before .before .before .before .before .before .before .before .before .before .before .before .before .before .before .before .before .before .before .before .offer-numbers .ensures), c .before .before .before .before .before .before .before .before .before .before .run-batch .ensures .ahead .few, c .before .before .before .before .before .before .before .before .before .before .run-batch .kept .1 .1 .1 .1 .0, c .before .before .before .before .before .before .before .before .before .before .run-batch .kept .1 .1 .1 .1 .1 .0)
+
+sub-t43 : tie.Need-sub-t43
+sub-t43 c = count-grows _ _ _ _ _ _ (c .before .before .before .before .before .before .before .before .before .before .before .before .before .before .before .before .before .before .before .before .before .before .before .before .before .before .before .before .before .before .args .stand) (c .before .before .before .before .before .before .before .before .before .before .before .before .before .before .before .before .before .before .before .before .before .before .before .before .before .before .before .before .before .before .pre .0) (c .before .before .before .before .before .before .before .before .before .before .before .before .before .before .before .before .before .before .before .before .before .before .before .before .before .before .before .before .before .before .pre .1) _ _ (c .before .before .before .before .before .before .before .before .before .before .before .before .before .before .before .before .before .before .before .before .before .before .before .before .before .before .terms-of .ensures) (c .before .before .before .before .before .before .before .before .before .before .before .before .before .before .before .before .before .before .before .before .before .before .before .before .before .offer-numbers .ensures) _ _ _ _ _ (c .before .before .before .before .before .before .before .before .before .before .before .before .run-batch .ensures)
+
+add-t45 : tie.Need-add-t45
+add-t45 c = omega (arith, c .before .before .before .before .before .before .before .before .before .before .before .before .before .run-batch .ensures .most, c .before .before .before .before .before .before .before .before .before .before .before .before .before .before .before .before .before .before .before .before .before .before .before .before .before .before .before .before .before .before .before .fits .n .fits)
+
+same-length : tie.Need-same-length
+same-length c = search needs
+
+returns : tie.Need-returns
+returns c = batch-goes _ _ _ _ _ _ (c .before .before .before .before .before .before .before .before .before .before .before .before .before .before .before .before .before .before .before .before .before .before .before .before .before .before .before .before .before .before .before .args .stand) (c .before .before .before .before .before .before .before .before .before .before .before .before .before .before .before .before .before .before .before .before .before .before .before .before .before .before .before .before .before .before .before .pre .0) (c .before .before .before .before .before .before .before .before .before .before .before .before .before .before .before .before .before .before .before .before .before .before .before .before .before .before .before .before .before .before .before .pre .1) _ _ (c .before .before .before .before .before .before .before .before .before .before .before .before .before .before .before .before .before .before .before .before .before .before .before .before .before .before .before .terms-of .ensures) (c .before .before .before .before .before .before .before .before .before .before .before .before .before .before .before .before .before .before .before .before .before .before .before .before .before .before .offer-numbers .ensures) _ _ _ _ _ (c .before .before .before .before .before .before .before .before .before .before .before .before .before .run-batch .ensures) _ _ (c .before .before .rows-of .ensures) refl refl refl
+
+pub go-on-in-range-spec : {M : Type 1} → statement M
+go-on-in-range-spec =
+    tie.close
+    (tie.spec
+    terms-of-requires
+    offer-numbers-requires
+    slice-aggregate-run-batch
+    slice-aggregate-run-batch-2
+    slice-aggregate-run-batch-3
+    slice-aggregate-run-batch-4
+    slice-aggregate-run-batch-5
+    slice-aggregate-run-batch-6
+    slice-aggregate-run-batch-7
+    run-batch-requires
+    slice-aggregate-rows-of
+    slice-aggregate-rows-of-2
+    rows-of-requires
+    sub-t43
+    add-t45
+    same-length
+    returns)

@@ -1,0 +1,91 @@
+-- The tests stand in the order of the definition, and each says its part of it.
+-- Assumes nothing.
+use mathlib.Core.Path.{sym, _∙_}
+use borrow.Author.Tests.{not-true, not-false}
+use Rattle.formulas.proofs.Amounts.{back}
+use Rattle.ledger.specs.Total.{totalBy, totalDecided}
+use borrow.Author.Needs.{needs}
+use Rattle.decisions.proofs.total_of.Statement.{statement}
+use Rattle.decisions.proofs.total_of.Tie as tie
+
+sheet-holds-requires : tie.Need-sheet-holds-requires
+sheet-holds-requires c κs = search needs
+
+no-total-requires : tie.Need-no-total-requires
+no-total-requires c κs = search needs
+
+returns : tie.Need-returns
+unfolding totalDecided totalBy
+returns c = c .no-total .ensures ∙ simp
+    (sym (c .before .before .sheet-holds .ensures) ∙ not-true _ (c .before .if1 .taken))
+
+book-fits-requires : tie.Need-book-fits-requires
+book-fits-requires c κs = search needs
+
+no-total-requires-2 : tie.Need-no-total-requires-2
+no-total-requires-2 c κs = search needs
+
+returns-2 : tie.Need-returns-2
+unfolding totalDecided totalBy
+returns-2 c = c .no-total2 .ensures ∙ simp (
+  sym (c .before .before .before .before .sheet-holds .ensures) ∙ not-false _ (c .before .before .before .if1 .left),
+  sym (c .before .before .book-fits .ensures) ∙ not-true _ (c .before .if2 .taken),
+)
+
+has-unit-requires : tie.Need-has-unit-requires
+has-unit-requires c κs = search needs
+
+no-total-requires-3 : tie.Need-no-total-requires-3
+no-total-requires-3 c κs = search needs
+
+returns-3 : tie.Need-returns-3
+unfolding totalDecided totalBy
+returns-3 c = c .no-total3 .ensures ∙ simp (
+  sym (c .before .before .before .before .before .before .sheet-holds .ensures) ∙ not-false _ (c .before .before .before .before .before .if1 .left),
+  sym (c .before .before .before .before .book-fits .ensures) ∙ not-false _ (c .before .before .before .if2 .left),
+  sym (c .before .before .has-unit .ensures) ∙ not-true _ (c .before .if3 .taken),
+)
+
+item-known-requires : tie.Need-item-known-requires
+item-known-requires c κs = search needs
+
+no-total-requires-4 : tie.Need-no-total-requires-4
+no-total-requires-4 c κs = search needs
+
+returns-4 : tie.Need-returns-4
+unfolding totalDecided totalBy
+returns-4 c = c .no-total4 .ensures ∙ simp (
+  sym (c .before .before .before .before .before .before .before .before .sheet-holds .ensures) ∙ not-false _ (c .before .before .before .before .before .before .before .if1 .left),
+  sym (c .before .before .before .before .before .before .book-fits .ensures) ∙ not-false _ (c .before .before .before .before .before .if2 .left),
+  sym (c .before .before .before .before .has-unit .ensures) ∙ not-false _ (c .before .before .before .if3 .left),
+  sym (c .before .before .item-known .ensures) ∙ not-true _ (c .before .if4 .taken),
+)
+
+returns-5 : tie.Need-returns-5
+unfolding totalDecided totalBy
+returns-5 c =
+    let a = c .before .before .before .before .before .before .before .before .before .args in
+    rw (back (a .seen .sum) (c .before .before .before .before .before .before .before .before .struct-told .given .1 .0 .1)) (simp (
+      sym (c .before .before .before .before .before .before .before .sheet-holds .ensures) ∙ not-false _ (c .before .before .before .before .before .before .if1 .left),
+      sym (c .before .before .before .before .before .book-fits .ensures) ∙ not-false _ (c .before .before .before .before .if2 .left),
+      sym (c .before .before .before .has-unit .ensures) ∙ not-false _ (c .before .before .if3 .left),
+      sym (c .before .item-known .ensures) ∙ not-false _ (c .if4 .left),
+    ))
+
+pub total-of-spec : {M : Type 1} → statement M
+total-of-spec =
+    tie.close
+    (tie.spec
+    sheet-holds-requires
+    no-total-requires
+    returns
+    book-fits-requires
+    no-total-requires-2
+    returns-2
+    has-unit-requires
+    no-total-requires-3
+    returns-3
+    item-known-requires
+    no-total-requires-4
+    returns-4
+    returns-5)

@@ -1,0 +1,5 @@
+pub mod ChangeStores
+pub mod Changes
+pub mod HourStored
+pub mod HourReady
+pub mod HourDecided

@@ -1,0 +1,64 @@
+-- The entries passed are those of the numbers, each made by `amounts_at`.
+-- Assumes nothing.
+use Prim.Native.Nat.{_-_}
+use native.Mathlib.Omega.{arith}
+use Rattle.state.specs.Sizes.{entries}
+use Rattle.numbers.specs.Numbers.{amountsAt, amountsOf}
+use Rattle.numbers.proofs.Filling.{Filling, filling-none, filling-next, filling-all}
+use borrow.Author.Needs.{needs}
+use Rattle.numbers.proofs.amounts_of.Statement.{statement}
+use Rattle.numbers.proofs.amounts_of.Tie as tie
+
+abbrev Inv-loop : tie.InvT-loop
+Inv-loop amounts out₀ j₀ out j = Filling entries (amountsAt amounts) out j
+
+abbrev μ-loop : tie.MeasureT-loop
+μ-loop amounts out₀ j₀ out j = entries - j
+
+no-amounts-requires : tie.Need-no-amounts-requires Inv-loop μ-loop
+no-amounts-requires c κs = search needs
+
+loop-holds : tie.Need-loop-holds Inv-loop μ-loop
+loop-holds c = filling-none entries (amountsAt (c .before .args .amounts .now)) (c .no-amounts .result)
+
+amounts-at-requires : tie.Need-amounts-at-requires Inv-loop μ-loop
+amounts-at-requires c κs = search needs
+
+mul-out : tie.Need-mul-out Inv-loop μ-loop
+mul-out c = search needs
+
+array-set-from-out : tie.Need-array-set-from-out Inv-loop μ-loop
+array-set-from-out c = search needs
+
+add-j : tie.Need-add-j Inv-loop μ-loop
+add-j c = search needs
+
+loop-less : tie.Need-loop-less Inv-loop μ-loop
+loop-less c = search needs
+
+loop-again : tie.Need-loop-again Inv-loop μ-loop
+loop-again c =
+    let l = c .before .before .loop in
+    filling-next entries (amountsAt (c .before .before .before .before .args .amounts .now)) (l .out) (l .j) _ (l .inv) (omega arith) (c .amounts-at .ensures)
+
+returns : tie.Need-returns Inv-loop μ-loop
+unfolding amountsOf
+returns c =
+    let l = c .before .loop in
+    filling-all entries (amountsAt (c .before .before .before .args .amounts .now)) (l .out) (l .j) (l .inv) (omega arith)
+
+pub amounts-of-spec : {M : Type 1} → statement M
+amounts-of-spec =
+    tie.close
+    (tie.spec
+    Inv-loop
+    μ-loop
+    no-amounts-requires
+    loop-holds
+    amounts-at-requires
+    mul-out
+    array-set-from-out
+    add-j
+    loop-less
+    loop-again
+    returns)

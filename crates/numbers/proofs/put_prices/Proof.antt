@@ -1,0 +1,73 @@
+-- After i turns the first i prices are pasted from the place on.
+-- Assumes nothing.
+use mathlib.Core.Path.{refl}
+use Prim.Native.Nat.{_-_}
+use native.Mathlib.Omega.{arith}
+use lib.ListN.{getD}
+use Rattle.numbers.proofs.Pasted.{Pasting, pasting-none, pasting-next, pasting-all}
+use borrow.Author.Needs.{needs}
+use Rattle.numbers.proofs.put_prices.Statement.{statement}
+use Rattle.numbers.proofs.put_prices.Tie as tie
+
+abbrev Inv-loop : tie.InvT-loop
+Inv-loop out₀ at price i₀ out i = Pasting 10 (λ j. getD price j 0) out₀ at out i
+
+abbrev μ-loop : tie.MeasureT-loop
+μ-loop out₀ at price i₀ out i = 10 - i
+
+loop-holds : tie.Need-loop-holds Inv-loop μ-loop
+loop-holds c = pasting-none 10 (λ j. getD (c .args .t3) j 0) (c .args .out .now) (c .args .at)
+
+mul-out : tie.Need-mul-out Inv-loop μ-loop
+mul-out c = search needs
+
+array-read-out : tie.Need-array-read-out Inv-loop μ-loop
+array-read-out c = search needs
+
+add-out : tie.Need-add-out Inv-loop μ-loop
+add-out c = search needs
+
+mul-out-2 : tie.Need-mul-out-2 Inv-loop μ-loop
+mul-out-2 c = search needs
+
+slice-write-out : tie.Need-slice-write-out Inv-loop μ-loop
+slice-write-out c = search needs
+
+add-i : tie.Need-add-i Inv-loop μ-loop
+add-i c = search needs
+
+loop-less : tie.Need-loop-less Inv-loop μ-loop
+loop-less c = search needs
+
+loop-again : tie.Need-loop-again Inv-loop μ-loop
+loop-again c =
+    let l = c .before .loop in
+    let a = c .before .before .args in
+    pasting-next 10 (λ j. getD (a .t3) j 0) (a .out .now) (a .at) (l .out) (l .i) _ (l .inv) (omega arith) (omega arith) refl
+
+same-length : tie.Need-same-length Inv-loop μ-loop
+same-length c = search needs
+
+returns : tie.Need-returns Inv-loop μ-loop
+returns c =
+    let l = c .before .loop in
+    let a = c .before .before .args in
+    pasting-all 10 (λ j. getD (a .t3) j 0) (a .out .now) (a .at) (l .out) (l .i) (l .inv) (omega arith)
+
+pub put-prices-spec : {M : Type 1} → statement M
+put-prices-spec =
+    tie.close
+    (tie.spec
+    Inv-loop
+    μ-loop
+    loop-holds
+    mul-out
+    array-read-out
+    add-out
+    mul-out-2
+    slice-write-out
+    add-i
+    loop-less
+    loop-again
+    same-length
+    returns)

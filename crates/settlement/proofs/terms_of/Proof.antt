@@ -1,0 +1,38 @@
+-- Each field is the definition's.
+-- Assumes nothing.
+use Rattle.settlement.specs.Hour.{termsOf}
+use borrow.Author.Needs.{needs}
+use Rattle.settlement.proofs.terms_of.Statement.{statement}
+use Rattle.settlement.proofs.terms_of.Tie as tie
+
+in-season-requires : tie.Need-in-season-requires
+in-season-requires c κs = search needs
+
+own-of-requires : tie.Need-own-of-requires
+own-of-requires c κs = search needs
+
+nominal-of-requires : tie.Need-nominal-of-requires
+nominal-of-requires c κs = search needs
+
+monthly-of-requires : tie.Need-monthly-of-requires
+monthly-of-requires c κs = search needs
+
+returns : tie.Need-returns
+unfolding termsOf
+returns c =
+    let s = c .before .before .before .before .before .args .sheet in
+    λ i.
+    record {
+      season = c .before .before .before .in-season .ensures i;
+      loss = s .loss;
+      bar = s .bar;
+      ceiling = s .ceiling;
+      cpf = s .cpf;
+      units = s .units;
+      own = c .before .before .own-of .ensures i;
+      nominal = c .before .nominal-of .ensures i;
+      monthly = c .monthly-of .ensures i;
+    }
+
+pub terms-of-spec : {M : Type 1} → statement M
+terms-of-spec = tie.close (tie.spec in-season-requires own-of-requires nominal-of-requires monthly-of-requires returns)

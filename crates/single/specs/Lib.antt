@@ -1,0 +1,2 @@
+pub mod Journal
+pub mod Single
