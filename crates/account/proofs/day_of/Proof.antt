@@ -36,26 +36,11 @@ so-far : (c : tie.At-loop Inv-loop μ-loop)
     Underway (a .sheet) (a .text .now) (a .at) (table (l .commitment) (l .mark) (l .energy) (l .amounts)) (l .rows) (l .count) (l .due)
 so-far c = c .loop .inv (entry c .args .sheet) (under c)
 
-terms-of-requires : tie.Need-terms-of-requires Inv-loop μ-loop
-terms-of-requires c κs = search needs
-
-offer-numbers-requires : tie.Need-offer-numbers-requires Inv-loop μ-loop
-offer-numbers-requires c κs = search needs
-
-add-due-at : tie.Need-add-due-at Inv-loop μ-loop
-add-due-at c = search needs
-
-due-at-requires : tie.Need-due-at-requires Inv-loop μ-loop
-due-at-requires c κs = search needs
-
 loop-holds : tie.Need-loop-holds Inv-loop μ-loop
 loop-holds c s u =
     let a = c .before .before .before .before .args in
     under-first s (a .text .now) (a .at) _ _ _ packed-zero (c .due-at .ensures ∙ ap (dueAt (a .text .now) (a .at)) (add-one (length (a .text .now))))
     (record { commitment = refl; mark = refl; energy = refl; amounts = refl }) refl
-
-decode-requires : tie.Need-decode-requires Inv-loop μ-loop
-decode-requires c κs = search needs
 
 slice-aggregate-carry-out : tie.Need-slice-aggregate-carry-out Inv-loop μ-loop
 slice-aggregate-carry-out c = sym (so-far (c .before .before .before .before) .long .commitment)
@@ -72,25 +57,16 @@ slice-aggregate-carry-out-4 c = sym (so-far (c .before .before .before .before .
 slice-aggregate-carry-out-5 : tie.Need-slice-aggregate-carry-out-5 Inv-loop μ-loop
 slice-aggregate-carry-out-5 c = sym (so-far (c .before .before .before .before .before .before .before .before) .rows-long)
 
-slice-aggregate-carry-out-6 : tie.Need-slice-aggregate-carry-out-6 Inv-loop μ-loop
-slice-aggregate-carry-out-6 c = search needs
-
 carry-out-requires : tie.Need-carry-out-requires Inv-loop μ-loop
 carry-out-requires c κs =
     let x = c .before .before .before .before .before .before .before .before .before in
     ready-now _ _ _ _ _ _ _ (so-far x) _ _ (under x)
-
-posted-of-requires : tie.Need-posted-of-requires Inv-loop μ-loop
-posted-of-requires c κs = search needs
 
 add-count : tie.Need-add-count Inv-loop μ-loop
 add-count c =
     let x = c .before .before .before .before .before .before .before .before .before .before .before .before .before .before .before .before in
     let most = count-more _ _ _ _ _ _ _ (so-far x) _ _ (under x) _ _ _ _ (c .before .before .before .before .before .before .before .before .before .before .before .before .before .decode .ensures) (c .before .before .before .before .before .before .carry-out .ensures) in
     record { fits = omega (arith, most, c .posted-of .ensures) }
-
-due-after-requires : tie.Need-due-after-requires Inv-loop μ-loop
-due-after-requires c κs = search needs
 
 loop-less : tie.Need-loop-less Inv-loop μ-loop
 loop-less c =
@@ -125,9 +101,6 @@ slice-aggregate-book-by-3 c = sym (so-far (c .before .before .before .before .be
 book-by-requires : tie.Need-book-by-requires Inv-loop μ-loop
 book-by-requires c κs = let long = so-far (c .before .before .before .before .before) .long in (long .commitment, long .energy, long .amounts)
 
-day-with-requires : tie.Need-day-with-requires Inv-loop μ-loop
-day-with-requires c κs = search needs
-
 returns : tie.Need-returns Inv-loop μ-loop
 returns c =
     let x = c .before .before .before .before .before .before .before in
@@ -140,27 +113,24 @@ day-of-spec =
     (tie.spec
     Inv-loop
     μ-loop
-    terms-of-requires
-    offer-numbers-requires
-    add-due-at
-    due-at-requires
+    (λ c κs. search needs) (λ c κs. search needs) (λ c. search needs) (λ c κs. search needs)
     loop-holds
-    decode-requires
+    (λ c κs. search needs)
     slice-aggregate-carry-out
     slice-aggregate-carry-out-2
     slice-aggregate-carry-out-3
     slice-aggregate-carry-out-4
     slice-aggregate-carry-out-5
-    slice-aggregate-carry-out-6
+    (λ c. search needs)
     carry-out-requires
-    posted-of-requires
+    (λ c κs. search needs)
     add-count
-    due-after-requires
+    (λ c κs. search needs)
     loop-less
     loop-again
     slice-aggregate-book-by
     slice-aggregate-book-by-2
     slice-aggregate-book-by-3
     book-by-requires
-    day-with-requires
+    (λ c κs. search needs)
     returns)

@@ -8,27 +8,6 @@ use borrow.Author.Needs.{needs}
 use Rattle.account.proofs.due_at.Statement.{statement}
 use Rattle.account.proofs.due_at.Tie as tie
 
-next-at-requires : tie.Need-next-at-requires
-next-at-requires c κs = search needs
-
-enum-told : tie.Need-enum-told
-enum-told c = search needs
-
-none-due-requires : tie.Need-none-due-requires
-none-due-requires c κs = search needs
-
-enum-known-next : tie.Need-enum-known-next
-enum-known-next c = search needs
-
-none-due-requires-2 : tie.Need-none-due-requires-2
-none-due-requires-2 c κs = search needs
-
-enum-known-next-2 : tie.Need-enum-known-next-2
-enum-known-next-2 c = search needs
-
-one-less-requires : tie.Need-one-less-requires
-one-less-requires c κs = search needs
-
 returns : tie.Need-returns
 returns c =
     let g = c .before .before .before .before .before .args in
@@ -49,13 +28,8 @@ pub due-at-spec : {M : Type 1} → statement M
 due-at-spec =
     tie.close
     (tie.spec
-    next-at-requires
-    enum-told
-    none-due-requires
-    enum-known-next
-    none-due-requires-2
-    enum-known-next-2
-    one-less-requires
+    (λ c κs. search needs) (λ c. search needs) (λ c κs. search needs) (λ c. search needs) (λ c κs. search needs)
+    (λ c. search needs) (λ c κs. search needs)
     returns
     returns-2
     returns-3)

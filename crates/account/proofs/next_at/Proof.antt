@@ -14,38 +14,8 @@ use Rattle.account.proofs.next_at.Tie as tie
 returns : tie.Need-returns
 returns c = past-end (c .before .before .args .text .now) (c .before .before .args .at) (c .if1 .taken)
 
-find-requires : tie.Need-find-requires
-find-requires c κs = search needs
-
 returns-2 : tie.Need-returns-2
 returns-2 c = unended (c .before .before .before .before .args .text .now) (c .before .before .before .before .args .at) (c .before .before .if1 .left) (c .before .find .result) (c .before .find .ensures) (c .if2 .taken)
-
-sub-line : tie.Need-sub-line
-sub-line c = search needs
-
-part-line-start : tie.Need-part-line-start
-part-line-start c = search needs
-
-part-line-end : tie.Need-part-line-end
-part-line-end c = search needs
-
-key-is-requires : tie.Need-key-is-requires
-key-is-requires c κs = search needs
-
-value-of-requires : tie.Need-value-of-requires
-value-of-requires c κs = search needs
-
-take-row-requires : tie.Need-take-row-requires
-take-row-requires c κs = search needs
-
-read-value-requires : tie.Need-read-value-requires
-read-value-requires c κs = search needs
-
-add-take-of : tie.Need-add-take-of
-add-take-of c = search needs
-
-take-of-requires : tie.Need-take-of-requires
-take-of-requires c κs = search needs
 
 returns-3 : tie.Need-returns-3
 returns-3 c =
@@ -55,12 +25,6 @@ returns-3 c =
     (c .before .read-value .ensures
     ∙ (ap (λ (r : Row). valueOf r (v .now)) (c .before .before .take-row .ensures) ∙ ap (valueOf takeRow) (c .before .before .before .value-of .ensures)))
     ∙ take-line (c .before .before .before .before .before .before .before .before .before .before .before .before .before .args .text .now) (c .before .before .before .before .before .before .before .before .before .before .before .before .before .args .at) (c .before .before .before .before .before .before .before .before .before .before .before .if1 .left) (c .before .before .before .before .before .before .before .before .before .before .find .result) (c .before .before .before .before .before .before .before .before .before .before .find .ensures) (c .before .before .before .before .before .before .before .before .before .if2 .left) (sym (c .before .before .before .before .before .key-is .ensures) ∙ c .before .before .before .before .if3 .taken))
-
-key-is-requires-2 : tie.Need-key-is-requires-2
-key-is-requires-2 c κs = search needs
-
-settle-at-requires : tie.Need-settle-at-requires
-settle-at-requires c κs = search needs
 
 returns-4 : tie.Need-returns-4
 returns-4 c =
@@ -76,19 +40,11 @@ next-at-spec =
     tie.close
     (tie.spec
     returns
-    find-requires
+    (λ c κs. search needs)
     returns-2
-    sub-line
-    part-line-start
-    part-line-end
-    key-is-requires
-    value-of-requires
-    take-row-requires
-    read-value-requires
-    add-take-of
-    take-of-requires
+    (λ c. search needs) (λ c. search needs) (λ c. search needs) (λ c κs. search needs) (λ c κs. search needs)
+    (λ c κs. search needs) (λ c κs. search needs) (λ c. search needs) (λ c κs. search needs)
     returns-3
-    key-is-requires-2
-    settle-at-requires
+    (λ c κs. search needs) (λ c κs. search needs)
     returns-4
     returns-5)

@@ -7,21 +7,9 @@ use borrow.Author.Needs.{needs}
 use Rattle.account.proofs.put_day.Statement.{statement}
 use Rattle.account.proofs.put_day.Tie as tie
 
-put-settled-requires : tie.Need-put-settled-requires
-put-settled-requires c κs = search needs
-
-same-length : tie.Need-same-length
-same-length c = search needs
-
 returns : tie.Need-returns
 unfolding dayLines
 returns c = (simp (eq-eqb _ _ (c .before .before .before .before .if1 .taken)) (c .before .before .put-settled .ensures .0), omega (arith, c .before .before .put-settled .ensures .1))
-
-put-refusal-requires : tie.Need-put-refusal-requires
-put-refusal-requires c κs = search needs
-
-same-length-2 : tie.Need-same-length-2
-same-length-2 c = search needs
 
 returns-2 : tie.Need-returns-2
 unfolding dayLines
@@ -31,9 +19,7 @@ pub put-day-spec : {M : Type 1} → statement M
 put-day-spec =
     tie.close
     (tie.spec
-    put-settled-requires
-    same-length
+    (λ c κs. search needs) (λ c. search needs)
     returns
-    put-refusal-requires
-    same-length-2
+    (λ c κs. search needs) (λ c. search needs)
     returns-2)

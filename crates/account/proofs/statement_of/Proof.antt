@@ -16,32 +16,11 @@ use borrow.Author.Needs.{needs}
 use Rattle.account.proofs.statement_of.Statement.{statement}
 use Rattle.account.proofs.statement_of.Tie as tie
 
-read-sheet-requires : tie.Need-read-sheet-requires
-read-sheet-requires c κs = search needs
-
-enum-known-answer : tie.Need-enum-known-answer
-enum-known-answer c = search needs
-
 day-of-requires : tie.Need-day-of-requires
 day-of-requires c κs =
     let e = c .before .before .before .before .before .read-sheet .ensures in
     ap (λ (x : SheetRead). sheetHolds (x .sheet)) e
     ∙ read-holds _ 0 _ (sym (ap (λ (x : SheetRead). x .answer) e) ∙ c .before .before .answer .given .1)
-
-put-day-requires : tie.Need-put-day-requires
-put-day-requires c κs = search needs
-
-enum-known-answer-2 : tie.Need-enum-known-answer-2
-enum-known-answer-2 c = search needs
-
-text-number-requires : tie.Need-text-number-requires
-text-number-requires c κs = search needs
-
-put-refusal-requires : tie.Need-put-refusal-requires
-put-refusal-requires c κs = search needs
-
-same-length : tie.Need-same-length
-same-length c = search needs
 
 returns : tie.Need-returns
 unfolding statementOf
@@ -56,9 +35,6 @@ returns c =
           ∙ written-filled (g .out .now) (statementOf (g .text .now))))),
       c .before .before .put-day .ensures .1,
     )
-
-same-length-2 : tie.Need-same-length-2
-same-length-2 c = search needs
 
 returns-2 : tie.Need-returns-2
 unfolding statementOf
@@ -78,14 +54,9 @@ pub statement-of-spec : {M : Type 1} → statement M
 statement-of-spec =
     tie.close
     (tie.spec
-    read-sheet-requires
-    enum-known-answer
+    (λ c κs. search needs) (λ c. search needs)
     day-of-requires
-    put-day-requires
-    enum-known-answer-2
-    text-number-requires
-    put-refusal-requires
-    same-length
+    (λ c κs. search needs) (λ c. search needs) (λ c κs. search needs) (λ c κs. search needs) (λ c. search needs)
     returns
-    same-length-2
+    (λ c. search needs)
     returns-2)

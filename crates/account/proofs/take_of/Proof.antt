@@ -5,15 +5,6 @@ use borrow.Author.Needs.{needs}
 use Rattle.account.proofs.take_of.Statement.{statement}
 use Rattle.account.proofs.take_of.Tie as tie
 
-array-read-t7 : tie.Need-array-read-t7
-array-read-t7 c = search needs
-
-array-read-t10 : tie.Need-array-read-t10
-array-read-t10 c = search needs
-
-array-read-t13 : tie.Need-array-read-t13
-array-read-t13 c = search needs
-
 returns : tie.Need-returns
 returns c = simp (eq-eqb _ _ (c .before .if1 .taken))
 
@@ -21,11 +12,4 @@ returns-2 : tie.Need-returns-2
 returns-2 c = simp (ne-eqb _ _ (c .if1 .left))
 
 pub take-of-spec : {M : Type 1} → statement M
-take-of-spec =
-    tie.close
-    (tie.spec
-    array-read-t7
-    array-read-t10
-    array-read-t13
-    returns
-    returns-2)
+take-of-spec = tie.close (tie.spec (λ c. search needs) (λ c. search needs) (λ c. search needs) returns returns-2)

@@ -11,12 +11,6 @@ use borrow.Author.Needs.{needs}
 use Rattle.allocation.proofs.allocate.Statement.{statement}
 use Rattle.allocation.proofs.allocate.Tie as tie
 
-ceilings-requires : tie.Need-ceilings-requires
-ceilings-requires c κs = search needs
-
-plant-energy-requires : tie.Need-plant-energy-requires
-plant-energy-requires c κs = search needs
-
 fill-requires : tie.Need-fill-requires
 fill-requires c κs =
     let start = c .before .before .before .before in
@@ -36,4 +30,4 @@ returns c =
     ∙ sym (energies-is (a .net) (a .reverse) (a .plant))))
 
 pub allocate-spec : {M : Type 1} → statement M
-allocate-spec = tie.close (tie.spec ceilings-requires plant-energy-requires fill-requires returns)
+allocate-spec = tie.close (tie.spec (λ c κs. search needs) (λ c κs. search needs) fill-requires returns)

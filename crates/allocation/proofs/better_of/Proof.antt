@@ -7,12 +7,6 @@ use borrow.Author.Needs.{needs}
 use Rattle.allocation.proofs.better_of.Statement.{statement}
 use Rattle.allocation.proofs.better_of.Tie as tie
 
-enum-told : tie.Need-enum-told
-enum-told c = search needs
-
-enum-told-2 : tie.Need-enum-told-2
-enum-told-2 c = search needs
-
 returns : tie.Need-returns
 returns c = λ next e h. better-first next _ _ (c .enum-told2 .given .1)
 
@@ -29,4 +23,4 @@ returns-3 c =
     λ next e h. f .1 ∙ better-kept next (a .found) (a .v) (f .0 .0) (f .1) (omega (arith, h (f .0 .0) (f .1), c .if1 .left))
 
 pub better-of-spec : {M : Type 1} → statement M
-better-of-spec = tie.close (tie.spec enum-told enum-told-2 returns returns-2 returns-3)
+better-of-spec = tie.close (tie.spec (λ c. search needs) (λ c. search needs) returns returns-2 returns-3)

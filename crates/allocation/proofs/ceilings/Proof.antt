@@ -57,24 +57,6 @@ shares-here c =
 real-sum-requires : tie.Need-real-sum-requires
 real-sum-requires c κs = real-most (c .before .before .args .plant) (c .before .before .pre .1)
 
-above-requires : tie.Need-above-requires
-above-requires c κs = search needs
-
-above-requires-2 : tie.Need-above-requires-2
-above-requires-2 c κs = search needs
-
-hub-of-requires : tie.Need-hub-of-requires
-hub-of-requires c κs = search needs
-
-weights-of-requires : tie.Need-weights-of-requires
-weights-of-requires c κs = search needs
-
-slice-aggregate-apportion : tie.Need-slice-aggregate-apportion
-slice-aggregate-apportion c = search needs
-
-slice-aggregate-apportion-2 : tie.Need-slice-aggregate-apportion-2
-slice-aggregate-apportion-2 c = search needs
-
 apportion-requires : tie.Need-apportion-requires
 apportion-requires c κs =
     let start = c .before .before .before .before .before .before .before .before .before in
@@ -103,12 +85,8 @@ ceilings-spec =
     tie.close
     (tie.spec
     real-sum-requires
-    above-requires
-    above-requires-2
-    hub-of-requires
-    weights-of-requires
-    slice-aggregate-apportion
-    slice-aggregate-apportion-2
+    (λ c κs. search needs) (λ c κs. search needs) (λ c κs. search needs) (λ c κs. search needs) (λ c. search needs)
+    (λ c. search needs)
     apportion-requires
     with-shares-requires
     returns)

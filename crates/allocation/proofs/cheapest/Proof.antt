@@ -28,39 +28,6 @@ loop-holds : tie.Need-loop-holds Inv-loop μ-loop
 unfolding best
 loop-holds c = (omega arith, refl, λ u e. absurd (let z : _≡_ {A = ℕ} 0 1 = cc in omega arith))
 
-mul-has : tie.Need-mul-has Inv-loop μ-loop
-mul-has c = search needs
-
-array-copy-out-has : tie.Need-array-copy-out-has Inv-loop μ-loop
-array-copy-out-has c = search needs
-
-mul-limit : tie.Need-mul-limit Inv-loop μ-loop
-mul-limit c = search needs
-
-array-copy-out-limit : tie.Need-array-copy-out-limit Inv-loop μ-loop
-array-copy-out-limit c = search needs
-
-mul-block : tie.Need-mul-block Inv-loop μ-loop
-mul-block c = search needs
-
-array-copy-out-block : tie.Need-array-copy-out-block Inv-loop μ-loop
-array-copy-out-block c = search needs
-
-exceeds-requires : tie.Need-exceeds-requires Inv-loop μ-loop
-exceeds-requires c κs = search needs
-
-better-of-requires : tie.Need-better-of-requires Inv-loop μ-loop
-better-of-requires c κs = search needs
-
-lower-of-requires : tie.Need-lower-of-requires Inv-loop μ-loop
-lower-of-requires c κs = search needs
-
-add-v : tie.Need-add-v Inv-loop μ-loop
-add-v c = search needs
-
-loop-less : tie.Need-loop-less Inv-loop μ-loop
-loop-less c = search needs
-
 loop-again : tie.Need-loop-again Inv-loop μ-loop
 loop-again c =
     let a = c .before .before .before .before .before .before .before .args in
@@ -101,16 +68,8 @@ cheapest-spec =
     Inv-loop
     μ-loop
     loop-holds
-    mul-has
-    array-copy-out-has
-    mul-limit
-    array-copy-out-limit
-    mul-block
-    array-copy-out-block
-    exceeds-requires
-    better-of-requires
-    lower-of-requires
-    add-v
-    loop-less
+    (λ c. search needs) (λ c. search needs) (λ c. search needs) (λ c. search needs) (λ c. search needs)
+    (λ c. search needs) (λ c κs. search needs) (λ c κs. search needs) (λ c κs. search needs) (λ c. search needs)
+    (λ c. search needs)
     loop-again
     returns)

@@ -76,9 +76,6 @@ more-here c =
     let m = c .lesser .ensures in
     (omega (arith, b .past, some, e, m), omega (arith, m), omega (arith, e, m))
 
-first-blocks-requires : tie.Need-first-blocks-requires Inv-loop μ-loop
-first-blocks-requires c κs = search needs
-
 loop-holds : tie.Need-loop-holds Inv-loop μ-loop
 unfolding place
 loop-holds c =
@@ -93,18 +90,6 @@ loop-holds c =
           (sym (ap (λ (g : HubGrains). g .0) (getD-replicate 8 u (record { 0 = 0 }) (record { 0 = 0 }) l)))
           (c .first-blocks .ensures .1 u l),
     )
-
-exceeds-requires : tie.Need-exceeds-requires Inv-loop μ-loop
-exceeds-requires c κs = search needs
-
-cheapest-requires : tie.Need-cheapest-requires Inv-loop μ-loop
-cheapest-requires c κs = search needs
-
-enum-known-found : tie.Need-enum-known-found Inv-loop μ-loop
-enum-known-found c = search needs
-
-enum-told : tie.Need-enum-told Inv-loop μ-loop
-enum-told c = search needs
 
 returns : tie.Need-returns Inv-loop μ-loop
 unfolding fill
@@ -129,12 +114,6 @@ mul-block c = let k = known-here (c .before) in omega (arith, k .0)
 
 array-copy-out-block : tie.Need-array-copy-out-block Inv-loop μ-loop
 array-copy-out-block c = let k = known-here (c .before) in omega (arith, k .0)
-
-above-requires : tie.Need-above-requires Inv-loop μ-loop
-above-requires c κs = search needs
-
-lesser-requires : tie.Need-lesser-requires Inv-loop μ-loop
-lesser-requires c κs = search needs
 
 plus-requires : tie.Need-plus-requires Inv-loop μ-loop
 plus-requires c κs =
@@ -181,9 +160,6 @@ mul-blocks c = let k = known-here (c .before .before .before .before .before .be
 array-set-from-blocks : tie.Need-array-set-from-blocks Inv-loop μ-loop
 array-set-from-blocks c = let k = known-here (c .before .before .before .before .before .before .before .before .before) in omega (arith, k .0)
 
-above-requires-2 : tie.Need-above-requires-2 Inv-loop μ-loop
-above-requires-2 c κs = search needs
-
 loop-less : tie.Need-loop-less Inv-loop μ-loop
 loop-less c =
     let m = more-here (c .before .before .before .before .before .before) in
@@ -225,19 +201,15 @@ fill-spec =
     (tie.spec
     Inv-loop
     μ-loop
-    first-blocks-requires
+    (λ c κs. search needs)
     loop-holds
-    exceeds-requires
-    cheapest-requires
-    enum-known-found
-    enum-told
+    (λ c κs. search needs) (λ c κs. search needs) (λ c. search needs) (λ c. search needs)
     returns
     mul-has
     array-copy-out-has
     mul-block
     array-copy-out-block
-    above-requires
-    lesser-requires
+    (λ c κs. search needs) (λ c κs. search needs)
     plus-requires
     mul-offer
     array-copy-out-offer
@@ -250,7 +222,7 @@ fill-spec =
     next-block-requires
     mul-blocks
     array-set-from-blocks
-    above-requires-2
+    (λ c κs. search needs)
     loop-less
     loop-again
     returns-2)

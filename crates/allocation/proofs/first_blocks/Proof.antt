@@ -21,41 +21,11 @@ abbrev μ-loop : tie.MeasureT-loop
 loop-holds : tie.Need-loop-holds Inv-loop μ-loop
 loop-holds c = (omega arith, refl, λ v l. absurd (omega arith))
 
-mul-offer : tie.Need-mul-offer Inv-loop μ-loop
-mul-offer c = search needs
-
-array-copy-out-offer : tie.Need-array-copy-out-offer Inv-loop μ-loop
-array-copy-out-offer c = search needs
-
-mul-commitment : tie.Need-mul-commitment Inv-loop μ-loop
-mul-commitment c = search needs
-
-array-copy-out-commitment : tie.Need-array-copy-out-commitment Inv-loop μ-loop
-array-copy-out-commitment c = search needs
-
-mul-limit : tie.Need-mul-limit Inv-loop μ-loop
-mul-limit c = search needs
-
-array-copy-out-limit : tie.Need-array-copy-out-limit Inv-loop μ-loop
-array-copy-out-limit c = search needs
-
 next-block-requires : tie.Need-next-block-requires Inv-loop μ-loop
 next-block-requires c κs =
     let start = c .before .before .before .before .before in
     let u = c .before .before .before .before .loop .u in
     start .pre u (omega arith)
-
-mul-blocks : tie.Need-mul-blocks Inv-loop μ-loop
-mul-blocks c = search needs
-
-array-set-from-blocks : tie.Need-array-set-from-blocks Inv-loop μ-loop
-array-set-from-blocks c = search needs
-
-add-u : tie.Need-add-u Inv-loop μ-loop
-add-u c = search needs
-
-loop-less : tie.Need-loop-less Inv-loop μ-loop
-loop-less c = search needs
 
 loop-again : tie.Need-loop-again Inv-loop μ-loop
 loop-again c =
@@ -81,16 +51,9 @@ first-blocks-spec =
     Inv-loop
     μ-loop
     loop-holds
-    mul-offer
-    array-copy-out-offer
-    mul-commitment
-    array-copy-out-commitment
-    mul-limit
-    array-copy-out-limit
+    (λ c. search needs) (λ c. search needs) (λ c. search needs) (λ c. search needs) (λ c. search needs)
+    (λ c. search needs)
     next-block-requires
-    mul-blocks
-    array-set-from-blocks
-    add-u
-    loop-less
+    (λ c. search needs) (λ c. search needs) (λ c. search needs) (λ c. search needs)
     loop-again
     returns)

@@ -8,12 +8,6 @@ use borrow.Author.Needs.{needs}
 use Rattle.allocation.proofs.lower_of.Statement.{statement}
 use Rattle.allocation.proofs.lower_of.Tie as tie
 
-enum-told : tie.Need-enum-told
-enum-told c = search needs
-
-enum-told-2 : tie.Need-enum-told-2
-enum-told-2 c = search needs
-
 returns : tie.Need-returns
 returns c = let n = c .enum-told2 .given .1 in (λ _. refl, λ u e. absurd (let z : _≡_ {A = ℕ} 0 1 = cc in omega arith))
 
@@ -24,4 +18,4 @@ returns-3 : tie.Need-returns-3
 returns-3 c = let f = c .before .enum-told .given .1 in (λ n. absurd (let z : _≡_ {A = ℕ} 0 1 = cc in omega arith), λ u e. rw (lt-ltb _ _ (c .if1 .left)))
 
 pub lower-of-spec : {M : Type 1} → statement M
-lower-of-spec = tie.close (tie.spec enum-told enum-told-2 returns returns-2 returns-3)
+lower-of-spec = tie.close (tie.spec (λ c. search needs) (λ c. search needs) returns returns-2 returns-3)

@@ -5,9 +5,6 @@ use borrow.Author.Needs.{needs}
 use Rattle.allocation.proofs.net_at.Statement.{statement}
 use Rattle.allocation.proofs.net_at.Tie as tie
 
-member-at-requires : tie.Need-member-at-requires
-member-at-requires c κs = search needs
-
 returns : tie.Need-returns
 returns c = simp (sym (c .before .member-at .ensures) ∙ c .if1 .taken)
 
@@ -15,4 +12,4 @@ returns-2 : tie.Need-returns-2
 returns-2 c = simp (sym (c .before .member-at .ensures) ∙ c .if1 .left)
 
 pub net-at-spec : {M : Type 1} → statement M
-net-at-spec = tie.close (tie.spec member-at-requires returns returns-2)
+net-at-spec = tie.close (tie.spec (λ c κs. search needs) returns returns-2)

@@ -7,9 +7,6 @@ use borrow.Author.Tests.{ltb-true, ltb-false}
 use Rattle.allocation.proofs.next_block.Statement.{statement}
 use Rattle.allocation.proofs.next_block.Tie as tie
 
-exceeds-requires : tie.Need-exceeds-requires
-exceeds-requires c κs = search needs
-
 block-at-requires : tie.Need-block-at-requires
 block-at-requires c κs =
     let a = c .before .before .args in
@@ -26,4 +23,4 @@ returns-2 c =
     λ l. absurd (omega (arith, ltb-false (a .i .0) (a .limit .0) (sym (c .before .exceeds .ensures) ∙ c .if1 .left)))
 
 pub next-block-spec : {M : Type 1} → statement M
-next-block-spec = tie.close (tie.spec exceeds-requires block-at-requires returns returns-2)
+next-block-spec = tie.close (tie.spec (λ c κs. search needs) block-at-requires returns returns-2)

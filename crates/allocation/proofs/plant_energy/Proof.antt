@@ -8,12 +8,6 @@ use borrow.Author.Needs.{needs}
 use Rattle.allocation.proofs.plant_energy.Statement.{statement}
 use Rattle.allocation.proofs.plant_energy.Tie as tie
 
-above-requires : tie.Need-above-requires
-above-requires c κs = search needs
-
-hub-of-requires : tie.Need-hub-of-requires
-hub-of-requires c κs = search needs
-
 returns : tie.Need-returns
 unfolding plantEnergy netEnergy
 returns c =
@@ -22,4 +16,4 @@ returns c =
     c .hub-of .ensures ∙ ap (λ (n : NetKwh). hubOf n (a .loss)) n
 
 pub plant-energy-spec : {M : Type 1} → statement M
-plant-energy-spec = tie.close (tie.spec above-requires hub-of-requires returns)
+plant-energy-spec = tie.close (tie.spec (λ c κs. search needs) (λ c κs. search needs) returns)

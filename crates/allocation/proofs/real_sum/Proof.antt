@@ -22,26 +22,11 @@ loop-holds : tie.Need-loop-holds Inv-loop μ-loop
 unfolding sumBelow
 loop-holds c = (omega arith, omega arith, refl)
 
-mul-value : tie.Need-mul-value Inv-loop μ-loop
-mul-value c = search needs
-
-array-copy-out-value : tie.Need-array-copy-out-value Inv-loop μ-loop
-array-copy-out-value c = search needs
-
-net-at-requires : tie.Need-net-at-requires Inv-loop μ-loop
-net-at-requires c κs = search needs
-
 plus-requires : tie.Need-plus-requires Inv-loop μ-loop
 plus-requires c κs =
     let start = c .before .before .before .before in
     let l = c .before .before .before .loop in
     omega (arith, ap (λ (n : NetKwh). n .0) (c .net-at .ensures), start .pre (l .k), l .inv)
-
-add-k : tie.Need-add-k Inv-loop μ-loop
-add-k c = search needs
-
-loop-less : tie.Need-loop-less Inv-loop μ-loop
-loop-less c = search needs
 
 loop-again : tie.Need-loop-again Inv-loop μ-loop
 loop-again c =
@@ -67,11 +52,8 @@ real-sum-spec =
     Inv-loop
     μ-loop
     loop-holds
-    mul-value
-    array-copy-out-value
-    net-at-requires
+    (λ c. search needs) (λ c. search needs) (λ c κs. search needs)
     plus-requires
-    add-k
-    loop-less
+    (λ c. search needs) (λ c. search needs)
     loop-again
     returns)

@@ -8,12 +8,6 @@ use borrow.Author.Needs.{needs}
 use Rattle.allocation.proofs.weight_at.Statement.{statement}
 use Rattle.allocation.proofs.weight_at.Tie as tie
 
-member-at-requires : tie.Need-member-at-requires
-member-at-requires c κs = search needs
-
-equals-requires : tie.Need-equals-requires
-equals-requires c κs = search needs
-
 returns : tie.Need-returns
 returns c = simp (sym (c .before .before .before .member-at .ensures) ∙ c .before .before .if1 .taken, sym (c .before .equals .ensures) ∙ c .if2 .taken)
 
@@ -30,4 +24,4 @@ returns-3 c =
     same false = refl
 
 pub weight-at-spec : {M : Type 1} → statement M
-weight-at-spec = tie.close (tie.spec member-at-requires equals-requires returns returns-2 returns-3)
+weight-at-spec = tie.close (tie.spec (λ c κs. search needs) (λ c κs. search needs) returns returns-2 returns-3)

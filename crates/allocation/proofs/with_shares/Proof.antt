@@ -53,41 +53,14 @@ loop-holds : tie.Need-loop-holds Inv-loop μ-loop
 unfolding tabulate
 loop-holds c = (omega arith, refl, refl)
 
-mul-value : tie.Need-mul-value Inv-loop μ-loop
-mul-value c = search needs
-
-array-copy-out-value : tie.Need-array-copy-out-value Inv-loop μ-loop
-array-copy-out-value c = search needs
-
-net-at-requires : tie.Need-net-at-requires Inv-loop μ-loop
-net-at-requires c κs = search needs
-
 hub-of-requires : tie.Need-hub-of-requires Inv-loop μ-loop
 hub-of-requires c κs =
     let start = c .before .before .before .before in
     let l = c .before .before .before .loop in
     (omega (arith, ap (λ (n : NetKwh). n .0) (c .net-at .ensures), start .pre .0 (l .k)), start .pre .2)
 
-mul-share : tie.Need-mul-share Inv-loop μ-loop
-mul-share c = search needs
-
-array-read-share : tie.Need-array-read-share Inv-loop μ-loop
-array-read-share c = search needs
-
 plus-requires : tie.Need-plus-requires Inv-loop μ-loop
 plus-requires c κs = omega (arith, here c)
-
-mul-ceilings : tie.Need-mul-ceilings Inv-loop μ-loop
-mul-ceilings c = search needs
-
-array-set-from-ceilings : tie.Need-array-set-from-ceilings Inv-loop μ-loop
-array-set-from-ceilings c = search needs
-
-add-k : tie.Need-add-k Inv-loop μ-loop
-add-k c = search needs
-
-loop-less : tie.Need-loop-less Inv-loop μ-loop
-loop-less c = search needs
 
 loop-again : tie.Need-loop-again Inv-loop μ-loop
 loop-again c =
@@ -116,16 +89,10 @@ with-shares-spec =
     Inv-loop
     μ-loop
     loop-holds
-    mul-value
-    array-copy-out-value
-    net-at-requires
+    (λ c. search needs) (λ c. search needs) (λ c κs. search needs)
     hub-of-requires
-    mul-share
-    array-read-share
+    (λ c. search needs) (λ c. search needs)
     plus-requires
-    mul-ceilings
-    array-set-from-ceilings
-    add-k
-    loop-less
+    (λ c. search needs) (λ c. search needs) (λ c. search needs) (λ c. search needs)
     loop-again
     returns)

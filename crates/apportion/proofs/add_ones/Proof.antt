@@ -60,12 +60,6 @@ add-shares c = omega (arith, here (c .before), c .before .before .before .before
 slice-write-shares : tie.Need-slice-write-shares Inv-loop μ-loop
 slice-write-shares c = omega (arith, here (c .before), c .before .before .before .before .loop .inv .1)
 
-add-added : tie.Need-add-added Inv-loop μ-loop
-add-added c = search needs
-
-loop-less : tie.Need-loop-less Inv-loop μ-loop
-loop-less c = search needs
-
 loop-again : tie.Need-loop-again Inv-loop μ-loop
 loop-again c =
     let g = c .before .before .before .before .before .before .before .args in
@@ -104,8 +98,7 @@ add-ones-spec =
     slice-read-shares
     add-shares
     slice-write-shares
-    add-added
-    loop-less
+    (λ c. search needs) (λ c. search needs)
     loop-again
     same-length
     returns)

@@ -46,23 +46,11 @@ due-here c =
       begun = after .quotients .ensures;
     }
 
-sum-of-requires : tie.Need-sum-of-requires
-sum-of-requires c κs = search needs
-
-zeros-requires : tie.Need-zeros-requires
-zeros-requires c κs = search needs
-
-same-length : tie.Need-same-length
-same-length c = search needs
-
 returns : tie.Need-returns
 returns c =
     let start = c .before .before .before .before .before .before .before .before in
     let e = sym (c .before .before .before .before .before .sum-of .ensures) ∙ c .before .before .before .before .if1 .taken in
     c .before .before .zeros .ensures ∙ (ap (λ (n : ℕ). replicate n 0) (start .pre .0) ∙ sym (shares-zero _ _ e))
-
-quotients-requires : tie.Need-quotients-requires
-quotients-requires c κs = search needs
 
 sum-of-requires-2 : tie.Need-sum-of-requires-2
 sum-of-requires-2 c κs = omega (arith, within (c .before .before .before), c .before .before .before .before .before .before .before .before .before .fits .total)
@@ -73,9 +61,6 @@ sub-rest c = omega (arith, within (c .before .before .before .before), c .sum-of
 add-ones-requires : tie.Need-add-ones-requires
 add-ones-requires c κs = due-here (c .before)
 
-same-length-2 : tie.Need-same-length-2
-same-length-2 c = search needs
-
 returns-2 : tie.Need-returns-2
 returns-2 c = c .before .before .add-ones .ensures ∙ due-shares _ _ _ _ _ (due-here (c .before .before .before .before))
 
@@ -83,13 +68,11 @@ pub apportion-spec : {M : Type 1} → statement M
 apportion-spec =
     tie.close
     (tie.spec
-    sum-of-requires
-    zeros-requires
-    same-length
+    (λ c κs. search needs) (λ c κs. search needs) (λ c. search needs)
     returns
-    quotients-requires
+    (λ c κs. search needs)
     sum-of-requires-2
     sub-rest
     add-ones-requires
-    same-length-2
+    (λ c. search needs)
     returns-2)

@@ -29,12 +29,6 @@ loop-holds c = (omega arith, sym (largest-one _ _ _), c .remainder-left .ensures
 remainder-left-requires-2 : tie.Need-remainder-left-requires-2 Inv-loop μ-loop
 remainder-left-requires-2 c κs = (omega arith, omega arith, omega arith, c .before .before .before .before .before .pre .3)
 
-add-i : tie.Need-add-i Inv-loop μ-loop
-add-i c = search needs
-
-loop-less : tie.Need-loop-less Inv-loop μ-loop
-loop-less c = search needs
-
 loop-again : tie.Need-loop-again Inv-loop μ-loop
 loop-again c =
     let g = c .before .before .before .before .before .before .before .args in
@@ -71,7 +65,6 @@ largest-spec =
     remainder-left-requires
     loop-holds
     remainder-left-requires-2
-    add-i
-    loop-less
+    (λ c. search needs) (λ c. search needs)
     loop-again
     returns)

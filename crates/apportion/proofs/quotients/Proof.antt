@@ -21,38 +21,14 @@ loop-holds : tie.Need-loop-holds Inv-loop μ-loop
 unfolding tabulate
 loop-holds c = (omega arith, c .pre .0, refl)
 
-mul-shares : tie.Need-mul-shares Inv-loop μ-loop
-mul-shares c = search needs
-
-shared-slice-read-shares : tie.Need-shared-slice-read-shares Inv-loop μ-loop
-shared-slice-read-shares c = search needs
-
 mul-shares-2 : tie.Need-mul-shares-2 Inv-loop μ-loop
 mul-shares-2 c = record { fits = c .before .before .before .pre .2 (c .before .before .loop .i) (c .before .loop-test .taken) }
-
-div-shares : tie.Need-div-shares Inv-loop μ-loop
-div-shares c = search needs
-
-mul-shares-3 : tie.Need-mul-shares-3 Inv-loop μ-loop
-mul-shares-3 c = search needs
-
-slice-write-shares : tie.Need-slice-write-shares Inv-loop μ-loop
-slice-write-shares c = search needs
-
-add-i : tie.Need-add-i Inv-loop μ-loop
-add-i c = search needs
-
-loop-less : tie.Need-loop-less Inv-loop μ-loop
-loop-less c = search needs
 
 loop-again : tie.Need-loop-again Inv-loop μ-loop
 loop-again c =
     let g = c .before .before .before .args in
     let l = c .before .before .loop in
     (simp length-set (omega arith), simp length-set (l .inv .1), filled-next (quotient (g .all) (g .total) (g .weights .now)) (l .shares) (l .i) _ (omega arith) (l .inv .2) refl)
-
-same-length : tie.Need-same-length Inv-loop μ-loop
-same-length c = search needs
 
 returns : tie.Need-returns Inv-loop μ-loop
 returns c =
@@ -68,14 +44,9 @@ quotients-spec =
     Inv-loop
     μ-loop
     loop-holds
-    mul-shares
-    shared-slice-read-shares
+    (λ c. search needs) (λ c. search needs)
     mul-shares-2
-    div-shares
-    mul-shares-3
-    slice-write-shares
-    add-i
-    loop-less
+    (λ c. search needs) (λ c. search needs) (λ c. search needs) (λ c. search needs) (λ c. search needs)
     loop-again
-    same-length
+    (λ c. search needs)
     returns)

@@ -5,26 +5,8 @@ use borrow.Author.Needs.{needs}
 use Rattle.apportion.proofs.remainder_left.Statement.{statement}
 use Rattle.apportion.proofs.remainder_left.Tie as tie
 
-mul-x : tie.Need-mul-x
-mul-x c = search needs
-
-shared-slice-read-x : tie.Need-shared-slice-read-x
-shared-slice-read-x c = search needs
-
 mul-x-2 : tie.Need-mul-x-2
 mul-x-2 c = record { fits = c .before .pre .3 (c .before .args .i) (c .before .pre .0) }
-
-mul-if1 : tie.Need-mul-if1
-mul-if1 c = search needs
-
-shared-slice-read-if1 : tie.Need-shared-slice-read-if1
-shared-slice-read-if1 c = search needs
-
-div-if1 : tie.Need-div-if1
-div-if1 c = search needs
-
-rem-result : tie.Need-rem-result
-rem-result c = search needs
 
 returns : tie.Need-returns
 returns c = simp (eq-eqb _ _ (c .if1 .taken))
@@ -36,12 +18,8 @@ pub remainder-left-spec : {M : Type 1} → statement M
 remainder-left-spec =
     tie.close
     (tie.spec
-    mul-x
-    shared-slice-read-x
+    (λ c. search needs) (λ c. search needs)
     mul-x-2
-    mul-if1
-    shared-slice-read-if1
-    div-if1
-    rem-result
+    (λ c. search needs) (λ c. search needs) (λ c. search needs) (λ c. search needs)
     returns
     returns-2)

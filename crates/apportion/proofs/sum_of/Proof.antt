@@ -20,22 +20,10 @@ loop-holds : tie.Need-loop-holds Inv-loop μ-loop
 unfolding sumBelow
 loop-holds c = (omega arith, refl)
 
-mul-sum : tie.Need-mul-sum Inv-loop μ-loop
-mul-sum c = search needs
-
-shared-slice-read-sum : tie.Need-shared-slice-read-sum Inv-loop μ-loop
-shared-slice-read-sum c = search needs
-
 add-sum : tie.Need-add-sum Inv-loop μ-loop
 add-sum c =
     let s = c .before .before .before .args .s .now in
     omega (arith, sum-has (length s) (c .before .before .loop .i) (λ k. getD s k 0) (c .before .loop-test .taken), c .before .before .before .pre)
-
-add-i : tie.Need-add-i Inv-loop μ-loop
-add-i c = search needs
-
-loop-less : tie.Need-loop-less Inv-loop μ-loop
-loop-less c = search needs
 
 loop-again : tie.Need-loop-again Inv-loop μ-loop
 loop-again c = omega (arith, sum-next (c .before .before .loop .i) (λ k. getD (c .before .before .before .args .s .now) k 0))
@@ -52,10 +40,8 @@ sum-of-spec =
     Inv-loop
     μ-loop
     loop-holds
-    mul-sum
-    shared-slice-read-sum
+    (λ c. search needs) (λ c. search needs)
     add-sum
-    add-i
-    loop-less
+    (λ c. search needs) (λ c. search needs)
     loop-again
     returns)

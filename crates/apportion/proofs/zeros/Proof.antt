@@ -20,25 +20,10 @@ loop-holds : tie.Need-loop-holds Inv-loop μ-loop
 unfolding tabulate
 loop-holds c = (omega arith, refl, refl)
 
-mul-shares : tie.Need-mul-shares Inv-loop μ-loop
-mul-shares c = search needs
-
-slice-write-shares : tie.Need-slice-write-shares Inv-loop μ-loop
-slice-write-shares c = search needs
-
-add-i : tie.Need-add-i Inv-loop μ-loop
-add-i c = search needs
-
-loop-less : tie.Need-loop-less Inv-loop μ-loop
-loop-less c = search needs
-
 loop-again : tie.Need-loop-again Inv-loop μ-loop
 loop-again c =
     let l = c .before .loop in
     (simp length-set (omega arith), simp length-set (l .inv .1), filled-next (λ k. 0) (l .shares) (l .i) 0 (omega arith) (l .inv .2) refl)
-
-same-length : tie.Need-same-length Inv-loop μ-loop
-same-length c = search needs
 
 returns : tie.Need-returns Inv-loop μ-loop
 returns c =
@@ -53,10 +38,7 @@ zeros-spec =
     Inv-loop
     μ-loop
     loop-holds
-    mul-shares
-    slice-write-shares
-    add-i
-    loop-less
+    (λ c. search needs) (λ c. search needs) (λ c. search needs) (λ c. search needs)
     loop-again
-    same-length
+    (λ c. search needs)
     returns)

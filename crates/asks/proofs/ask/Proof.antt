@@ -15,33 +15,12 @@ use borrow.Author.Needs.{needs}
 use Rattle.asks.proofs.ask.Statement.{statement}
 use Rattle.asks.proofs.ask.Tie as tie
 
-find-requires : tie.Need-find-requires
-find-requires c κs = search needs
-
-nothing-asked-requires : tie.Need-nothing-asked-requires
-nothing-asked-requires c κs = search needs
-
 returns : tie.Need-returns
 returns c =
     let g = c .before .before .before .before .args in
     let t = g .text .now in
     let f = c .before .before .find in
     (c .nothing-asked .ensures ∙ no-line-end t (g .at) (f .result) (f .ensures) (c .before .if1 .taken), λ z. absurd (let n : _≡_ {A = ℕ} 4 0 = ap (λ (x : Asking). x .refusal) (sym (c .nothing-asked .ensures)) ∙ z in omega arith))
-
-sub-line : tie.Need-sub-line
-sub-line c = search needs
-
-part-line-start : tie.Need-part-line-start
-part-line-start c = search needs
-
-part-line-end : tie.Need-part-line-end
-part-line-end c = search needs
-
-kind-of-requires : tie.Need-kind-of-requires
-kind-of-requires c κs = search needs
-
-nothing-asked-requires-2 : tie.Need-nothing-asked-requires-2
-nothing-asked-requires-2 c κs = search needs
 
 returns-2 : tie.Need-returns-2
 returns-2 c =
@@ -50,15 +29,6 @@ returns-2 c =
     let f = c .before .before .before .before .before .find in
     let s : f .result < length t = omega (arith, c .before .before .before .before .if1 .left) in
     (c .nothing-asked2 .ensures ∙ other-key t (g .at) (f .result) (f .ensures) s (sym (c .before .before .kind-of .ensures) ∙ c .before .if2 .taken), λ z. absurd (let n : _≡_ {A = ℕ} 1 0 = ap (λ (x : Asking). x .refusal) (sym (c .nothing-asked2 .ensures)) ∙ z in omega arith))
-
-value-of-requires : tie.Need-value-of-requires
-value-of-requires c κs = search needs
-
-row-of-requires : tie.Need-row-of-requires
-row-of-requires c κs = search needs
-
-read-value-requires : tie.Need-read-value-requires
-read-value-requires c κs = search needs
 
 -- what is read of the value is that of the line
 value-is : (c : tie.After-read-value) →
@@ -72,9 +42,6 @@ value-is c =
     ∙ (ap (λ (r : Row). valueOf r (c .before .before .value-of .result .now)) (c .before .row-of .ensures ∙ ap rowOf (c .before .before .before .before .kind-of .ensures))
     ∙ ap (valueOf (rowOf (kindOf line))) (c .before .before .value-of .ensures))
 
-nothing-asked-requires-3 : tie.Need-nothing-asked-requires-3
-nothing-asked-requires-3 c κs = search needs
-
 returns-3 : tie.Need-returns-3
 returns-3 c =
     let g = c .before .before .before .before .before .before .before .before .before .before .before .before .args in
@@ -84,9 +51,6 @@ returns-3 c =
     let known : kindOf (take (f .result - g .at) (drop (g .at) t)) ≡ 0 → ⊥ = λ z. c .before .before .before .before .before .before .if2 .left (c .before .before .before .before .before .before .before .kind-of .ensures ∙ z) in
     let v = value-is (c .before .before .before) in
     (c .nothing-asked3 .ensures ∙ bad-value t (g .at) (f .result) (f .ensures) s known (λ z. c .before .if3 .taken (ap (λ (l : Line). l .code) v ∙ z)), λ z. absurd (let n : _≡_ {A = ℕ} 2 0 = ap (λ (x : Asking). x .refusal) (sym (c .nothing-asked3 .ensures)) ∙ z in omega arith))
-
-asking-of-requires : tie.Need-asking-of-requires
-asking-of-requires c κs = search needs
 
 returns-4 : tie.Need-returns-4
 returns-4 c =
@@ -104,19 +68,11 @@ pub ask-spec : {M : Type 1} → statement M
 ask-spec =
     tie.close
     (tie.spec
-    find-requires
-    nothing-asked-requires
+    (λ c κs. search needs) (λ c κs. search needs)
     returns
-    sub-line
-    part-line-start
-    part-line-end
-    kind-of-requires
-    nothing-asked-requires-2
+    (λ c. search needs) (λ c. search needs) (λ c. search needs) (λ c κs. search needs) (λ c κs. search needs)
     returns-2
-    value-of-requires
-    row-of-requires
-    read-value-requires
-    nothing-asked-requires-3
+    (λ c κs. search needs) (λ c κs. search needs) (λ c κs. search needs) (λ c κs. search needs)
     returns-3
-    asking-of-requires
+    (λ c κs. search needs)
     returns-4)

@@ -21,41 +21,17 @@ abbrev μ-loop : tie.MeasureT-loop
 loop-holds : tie.Need-loop-holds Inv-loop μ-loop
 loop-holds c = refl
 
-find-requires : tie.Need-find-requires Inv-loop μ-loop
-find-requires c κs = search needs
-
 returns : tie.Need-returns Inv-loop μ-loop
 returns c =
     let t = c .before .before .before .before .before .args .text .now in
     let l = c .before .before .before .loop in
     omega (arith, past-all t (l .at) (c .before .find .result) (c .before .find .ensures) (omega arith) (c .if1 .taken), l .inv)
 
-sub-is-end : tie.Need-sub-is-end Inv-loop μ-loop
-sub-is-end c = search needs
-
-part-is-end-start : tie.Need-part-is-end-start Inv-loop μ-loop
-part-is-end-start c = search needs
-
-part-is-end-end : tie.Need-part-is-end-end Inv-loop μ-loop
-part-is-end-end c = search needs
-
-is-end-requires : tie.Need-is-end-requires Inv-loop μ-loop
-is-end-requires c κs = search needs
-
-add-result : tie.Need-add-result Inv-loop μ-loop
-add-result c = search needs
-
 returns-2 : tie.Need-returns-2 Inv-loop μ-loop
 returns-2 c =
     let t = c .before .before .before .before .before .before .before .before .args .text .now in
     let l = c .before .before .before .before .before .before .loop in
     omega (arith, at-end t (l .at) (c .before .before .before .before .find .result) (c .before .before .before .before .find .ensures) (omega (arith, c .before .before .before .if1 .left)) (sym (c .before .is-end .ensures) ∙ c .if2 .taken), l .inv)
-
-add-at : tie.Need-add-at Inv-loop μ-loop
-add-at c = search needs
-
-loop-less : tie.Need-loop-less Inv-loop μ-loop
-loop-less c = search needs
 
 loop-again : tie.Need-loop-again Inv-loop μ-loop
 loop-again c =
@@ -73,15 +49,10 @@ behind-record-spec =
     Inv-loop
     μ-loop
     loop-holds
-    find-requires
+    (λ c κs. search needs)
     returns
-    sub-is-end
-    part-is-end-start
-    part-is-end-end
-    is-end-requires
-    add-result
+    (λ c. search needs) (λ c. search needs) (λ c. search needs) (λ c κs. search needs) (λ c. search needs)
     returns-2
-    add-at
-    loop-less
+    (λ c. search needs) (λ c. search needs)
     loop-again
     returns-3)

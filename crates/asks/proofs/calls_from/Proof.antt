@@ -23,14 +23,8 @@ abbrev μ-loop : tie.MeasureT-loop
 loop-holds : tie.Need-loop-holds Inv-loop μ-loop
 loop-holds c = (omega arith, omega arith, none-counted (c .before .args .text .now) (c .before .args .from))
 
-ask-requires : tie.Need-ask-requires Inv-loop μ-loop
-ask-requires c κs = search needs
-
 slice-aggregate-line-ends : tie.Need-slice-aggregate-line-ends Inv-loop μ-loop
 slice-aggregate-line-ends c = sym (length-take-le (c .before .before .before .before .before .loop .at) (c .before .before .before .before .before .before .before .args .text .now) (omega arith))
-
-line-ends-requires : tie.Need-line-ends-requires Inv-loop μ-loop
-line-ends-requires c κs = search needs
 
 add-t11 : tie.Need-add-t11 Inv-loop μ-loop
 add-t11 c =
@@ -51,9 +45,6 @@ returns c =
           ∙ (sym (counted-stop t (l .at) (l .calls) (l .inv .0) (omega arith) r) ∙ l .inv .2),
       l .inv .1,
     )
-
-add-calls : tie.Need-add-calls Inv-loop μ-loop
-add-calls c = search needs
 
 loop-less : tie.Need-loop-less Inv-loop μ-loop
 loop-less c =
@@ -85,12 +76,12 @@ calls-from-spec =
     Inv-loop
     μ-loop
     loop-holds
-    ask-requires
+    (λ c κs. search needs)
     slice-aggregate-line-ends
-    line-ends-requires
+    (λ c κs. search needs)
     add-t11
     returns
-    add-calls
+    (λ c. search needs)
     loop-less
     loop-again
     returns-2)

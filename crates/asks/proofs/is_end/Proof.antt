@@ -9,15 +9,6 @@ use borrow.Author.Needs.{needs}
 use Rattle.asks.proofs.is_end.Statement.{statement}
 use Rattle.asks.proofs.is_end.Tie as tie
 
-key-is-requires : tie.Need-key-is-requires
-key-is-requires c κs = search needs
-
-value-of-requires : tie.Need-value-of-requires
-value-of-requires c κs = search needs
-
-word-is-requires : tie.Need-word-is-requires
-word-is-requires c κs = search needs
-
 returns : tie.Need-returns
 returns c = simp (sym (c .before .before .before .before .before .key-is .ensures) ∙ c .before .before .before .before .if1 .taken) (c .word-is .ensures ∙ ap (λ (s : List ℕ). wordIs s (word "hour")) (c .before .before .before .value-of .ensures))
 
@@ -26,4 +17,8 @@ returns-2 c = simp (sym (c .before .key-is .ensures) ∙ c .if1 .left)
 
 pub is-end-spec : {M : Type 1} → statement M
 is-end-spec =
-    tie.close (tie.spec key-is-requires value-of-requires word-is-requires returns returns-2)
+    tie.close
+    (tie.spec
+    (λ c κs. search needs) (λ c κs. search needs) (λ c κs. search needs)
+    returns
+    returns-2)

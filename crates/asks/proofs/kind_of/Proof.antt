@@ -6,50 +6,29 @@ use borrow.Author.Needs.{needs}
 use Rattle.asks.proofs.kind_of.Statement.{statement}
 use Rattle.asks.proofs.kind_of.Tie as tie
 
-key-is-requires : tie.Need-key-is-requires
-key-is-requires c κs = search needs
-
 returns : tie.Need-returns
 unfolding kindOf
 returns c = simp (sym (c .before .key-is .ensures) ∙ c .if1 .taken)
-
-key-is-requires-2 : tie.Need-key-is-requires-2
-key-is-requires-2 c κs = search needs
 
 returns-2 : tie.Need-returns-2
 unfolding kindOf
 returns-2 c = simp (sym (c .before .before .before .before .before .key-is .ensures) ∙ c .before .before .before .before .if1 .left, sym (c .before .key-is2 .ensures) ∙ c .if2 .taken)
 
-key-is-requires-3 : tie.Need-key-is-requires-3
-key-is-requires-3 c κs = search needs
-
 returns-3 : tie.Need-returns-3
 unfolding kindOf
 returns-3 c = simp (sym (c .before .before .before .before .before .before .before .before .before .key-is .ensures) ∙ c .before .before .before .before .before .before .before .before .if1 .left, sym (c .before .before .before .before .before .key-is2 .ensures) ∙ c .before .before .before .before .if2 .left, sym (c .before .key-is3 .ensures) ∙ c .if3 .taken)
-
-key-is-requires-4 : tie.Need-key-is-requires-4
-key-is-requires-4 c κs = search needs
 
 returns-4 : tie.Need-returns-4
 unfolding kindOf
 returns-4 c = simp (sym (c .before .before .before .before .before .before .before .before .before .before .before .before .before .key-is .ensures) ∙ c .before .before .before .before .before .before .before .before .before .before .before .before .if1 .left, sym (c .before .before .before .before .before .before .before .before .before .key-is2 .ensures) ∙ c .before .before .before .before .before .before .before .before .if2 .left, sym (c .before .before .before .before .before .key-is3 .ensures) ∙ c .before .before .before .before .if3 .left, sym (c .before .key-is4 .ensures) ∙ c .if4 .taken)
 
-key-is-requires-5 : tie.Need-key-is-requires-5
-key-is-requires-5 c κs = search needs
-
 returns-5 : tie.Need-returns-5
 unfolding kindOf
 returns-5 c = simp (sym (c .before .before .before .before .before .before .before .before .before .before .before .before .before .before .before .before .before .key-is .ensures) ∙ c .before .before .before .before .before .before .before .before .before .before .before .before .before .before .before .before .if1 .left, sym (c .before .before .before .before .before .before .before .before .before .before .before .before .before .key-is2 .ensures) ∙ c .before .before .before .before .before .before .before .before .before .before .before .before .if2 .left, sym (c .before .before .before .before .before .before .before .before .before .key-is3 .ensures) ∙ c .before .before .before .before .before .before .before .before .if3 .left, sym (c .before .before .before .before .before .key-is4 .ensures) ∙ c .before .before .before .before .if4 .left, sym (c .before .key-is5 .ensures) ∙ c .if5 .taken)
 
-key-is-requires-6 : tie.Need-key-is-requires-6
-key-is-requires-6 c κs = search needs
-
 returns-6 : tie.Need-returns-6
 unfolding kindOf
 returns-6 c = simp (sym (c .before .before .before .before .before .before .before .before .before .before .before .before .before .before .before .before .before .before .before .before .before .key-is .ensures) ∙ c .before .before .before .before .before .before .before .before .before .before .before .before .before .before .before .before .before .before .before .before .if1 .left, sym (c .before .before .before .before .before .before .before .before .before .before .before .before .before .before .before .before .before .key-is2 .ensures) ∙ c .before .before .before .before .before .before .before .before .before .before .before .before .before .before .before .before .if2 .left, sym (c .before .before .before .before .before .before .before .before .before .before .before .before .before .key-is3 .ensures) ∙ c .before .before .before .before .before .before .before .before .before .before .before .before .if3 .left, sym (c .before .before .before .before .before .before .before .before .before .key-is4 .ensures) ∙ c .before .before .before .before .before .before .before .before .if4 .left, sym (c .before .before .before .before .before .key-is5 .ensures) ∙ c .before .before .before .before .if5 .left, sym (c .before .key-is6 .ensures) ∙ c .if6 .taken)
-
-key-is-requires-7 : tie.Need-key-is-requires-7
-key-is-requires-7 c κs = search needs
 
 returns-7 : tie.Need-returns-7
 unfolding kindOf
@@ -63,18 +42,18 @@ pub kind-of-spec : {M : Type 1} → statement M
 kind-of-spec =
     tie.close
     (tie.spec
-    key-is-requires
+    (λ c κs. search needs)
     returns
-    key-is-requires-2
+    (λ c κs. search needs)
     returns-2
-    key-is-requires-3
+    (λ c κs. search needs)
     returns-3
-    key-is-requires-4
+    (λ c κs. search needs)
     returns-4
-    key-is-requires-5
+    (λ c κs. search needs)
     returns-5
-    key-is-requires-6
+    (λ c κs. search needs)
     returns-6
-    key-is-requires-7
+    (λ c κs. search needs)
     returns-7
     returns-8)

@@ -20,20 +20,8 @@ abbrev μ-loop : tie.MeasureT-loop
 loop-holds : tie.Need-loop-holds Inv-loop μ-loop
 loop-holds c = (omega arith, omega arith, omega arith)
 
-shared-slice-read-is-line-end : tie.Need-shared-slice-read-is-line-end Inv-loop μ-loop
-shared-slice-read-is-line-end c = search needs
-
-is-line-end-requires : tie.Need-is-line-end-requires Inv-loop μ-loop
-is-line-end-requires c κs = search needs
-
 add-n : tie.Need-add-n Inv-loop μ-loop
 add-n c = omega (arith, c .is-line-end .ensures .1, c .before .before .before .loop .inv .0)
-
-add-i : tie.Need-add-i Inv-loop μ-loop
-add-i c = search needs
-
-loop-less : tie.Need-loop-less Inv-loop μ-loop
-loop-less c = search needs
 
 loop-again : tie.Need-loop-again Inv-loop μ-loop
 loop-again c =
@@ -52,10 +40,8 @@ line-ends-spec =
     Inv-loop
     μ-loop
     loop-holds
-    shared-slice-read-is-line-end
-    is-line-end-requires
+    (λ c. search needs) (λ c κs. search needs)
     add-n
-    add-i
-    loop-less
+    (λ c. search needs) (λ c. search needs)
     loop-again
     returns)

@@ -7,15 +7,9 @@ use borrow.Author.Needs.{needs}
 use Rattle.asks.proofs.next_of.Statement.{statement}
 use Rattle.asks.proofs.next_of.Tie as tie
 
-behind-record-requires : tie.Need-behind-record-requires
-behind-record-requires c κs = search needs
-
 returns : tie.Need-returns
 unfolding nextOf
 returns c = (simp (eq-eqb _ _ (c .before .if1 .taken)) (c .behind-record .ensures), omega (arith, c .behind-record .ensures))
-
-behind-record-requires-2 : tie.Need-behind-record-requires-2
-behind-record-requires-2 c κs = search needs
 
 returns-2 : tie.Need-returns-2
 unfolding nextOf
@@ -26,6 +20,4 @@ unfolding nextOf
 returns-3 c = (simp (ne-eqb _ _ (c .before .if1 .left), ne-eqb _ _ (c .if2 .left)), omega arith)
 
 pub next-of-spec : {M : Type 1} → statement M
-next-of-spec =
-    tie.close
-    (tie.spec behind-record-requires returns behind-record-requires-2 returns-2 returns-3)
+next-of-spec = tie.close (tie.spec (λ c κs. search needs) returns (λ c κs. search needs) returns-2 returns-3)

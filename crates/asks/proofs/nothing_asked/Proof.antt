@@ -6,11 +6,8 @@ use borrow.Author.Needs.{needs}
 use Rattle.asks.proofs.nothing_asked.Statement.{statement}
 use Rattle.asks.proofs.nothing_asked.Tie as tie
 
-no-asked-requires : tie.Need-no-asked-requires
-no-asked-requires c κs = search needs
-
 returns : tie.Need-returns
 returns c = ap (λ (x : Asked). record { call = x; unit = 0; item = 0; kind = 0; refusal = c .before .args .refusal; next = c .before .args .at }) (c .no-asked .ensures)
 
 pub nothing-asked-spec : {M : Type 1} → statement M
-nothing-asked-spec = tie.close (tie.spec no-asked-requires returns)
+nothing-asked-spec = tie.close (tie.spec (λ c κs. search needs) returns)

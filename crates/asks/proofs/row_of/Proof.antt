@@ -6,14 +6,8 @@ use borrow.Author.Needs.{needs}
 use Rattle.asks.proofs.row_of.Statement.{statement}
 use Rattle.asks.proofs.row_of.Tie as tie
 
-numbers-of-requires : tie.Need-numbers-of-requires
-numbers-of-requires c κs = search needs
-
-cast-t9 : tie.Need-cast-t9
-cast-t9 c = search needs
-
 returns : tie.Need-returns
 returns c = ap rowWith (c .before .before .before .before .numbers-of .ensures)
 
 pub row-of-spec : {M : Type 1} → statement M
-row-of-spec = tie.close (tie.spec numbers-of-requires cast-t9 returns)
+row-of-spec = tie.close (tie.spec (λ c κs. search needs) (λ c. search needs) returns)

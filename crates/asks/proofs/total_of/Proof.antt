@@ -5,12 +5,6 @@ use borrow.Author.Needs.{needs}
 use Rattle.asks.proofs.total_of.Statement.{statement}
 use Rattle.asks.proofs.total_of.Tie as tie
 
-mul-result : tie.Need-mul-result
-mul-result c = search needs
-
-array-read-result : tie.Need-array-read-result
-array-read-result c = search needs
-
 returns : tie.Need-returns
 returns c = simp (eq-eqb _ _ (c .if1 .taken))
 
@@ -18,4 +12,4 @@ returns-2 : tie.Need-returns-2
 returns-2 c = simp (ne-eqb _ _ (c .if1 .left))
 
 pub total-of-spec : {M : Type 1} → statement M
-total-of-spec = tie.close (tie.spec mul-result array-read-result returns returns-2)
+total-of-spec = tie.close (tie.spec (λ c. search needs) (λ c. search needs) returns returns-2)

@@ -11,12 +11,6 @@ use borrow.Author.Needs.{needs}
 use Rattle.batch.proofs.go_on_in_range.Statement.{statement}
 use Rattle.batch.proofs.go_on_in_range.Tie as tie
 
-terms-of-requires : tie.Need-terms-of-requires
-terms-of-requires c κs = search needs
-
-offer-numbers-requires : tie.Need-offer-numbers-requires
-offer-numbers-requires c κs = search needs
-
 -- a stand has as many numbers as its type says
 long : (c : tie.Start) → Long (tableOf (c .args .stand))
 long c = record { commitment = simp length-map at (c .good .1 .1 .1 .1 .1 .1 .0 .1 .1 .1 .1 .1 .0 .1 .0 .1); mark = simp length-map at (c .good .1 .1 .1 .1 .1 .1 .0 .1 .1 .1 .1 .1 .1 .0 .1 .0 .1); energy = simp length-map at (c .good .1 .1 .1 .1 .1 .1 .0 .1 .1 .1 .1 .1 .1 .1 .0 .1 .0 .1); amounts = simp length-map at (c .good .1 .1 .1 .1 .1 .1 .0 .1 .1 .1 .1 .1 .1 .1 .1 .0 .1 .0 .1) }
@@ -33,23 +27,8 @@ slice-aggregate-run-batch-3 c = sym (long (c .before .before .before .before .be
 slice-aggregate-run-batch-4 : tie.Need-slice-aggregate-run-batch-4
 slice-aggregate-run-batch-4 c = sym (long (c .before .before .before .before .before .before .before .before .before .before .before .before .before) .amounts)
 
-slice-aggregate-run-batch-5 : tie.Need-slice-aggregate-run-batch-5
-slice-aggregate-run-batch-5 c = search needs
-
-slice-aggregate-run-batch-6 : tie.Need-slice-aggregate-run-batch-6
-slice-aggregate-run-batch-6 c = search needs
-
-slice-aggregate-run-batch-7 : tie.Need-slice-aggregate-run-batch-7
-slice-aggregate-run-batch-7 c = search needs
-
 run-batch-requires : tie.Need-run-batch-requires
 run-batch-requires c κs = batch-ready _ _ _ _ _ _ (c .before .before .before .before .before .before .before .before .before .before .before .before .before .before .before .before .before .args .stand) (c .before .before .before .before .before .before .before .before .before .before .before .before .before .before .before .before .before .pre .0) (c .before .before .before .before .before .before .before .before .before .before .before .before .before .before .before .before .before .pre .1) _ _ (c .before .before .before .before .before .before .before .before .before .before .before .before .before .terms-of .ensures) (c .before .before .before .before .before .before .before .before .before .before .before .before .offer-numbers .ensures) _ _ (long (c .before .before .before .before .before .before .before .before .before .before .before .before .before .before .before .before .before)) refl refl
-
-slice-aggregate-rows-of : tie.Need-slice-aggregate-rows-of
-slice-aggregate-rows-of c = search needs
-
-slice-aggregate-rows-of-2 : tie.Need-slice-aggregate-rows-of-2
-slice-aggregate-rows-of-2 c = search needs
 
 rows-of-requires : tie.Need-rows-of-requires
 rows-of-requires c κs = (units-most _ _ _ _ _ _ (c .before .before .before .before .before .before .before .before .before .before .before .before .before .before .before .before .before .before .before .before .before .before .before .before .before .before .before .before .args .stand) (c .before .before .before .before .before .before .before .before .before .before .before .before .before .before .before .before .before .before .before .before .before .before .before .before .before .before .before .before .pre .0) (c .before .before .before .before .before .before .before .before .before .before .before .before .before .before .before .before .before .before .before .before .before .before .before .before .before .before .before .before .pre .1) _ _ (c .before .before .before .before .before .before .before .before .before .before .before .before .before .before .before .before .before .before .before .before .before .before .before .before .terms-of .ensures) (c .before .before .before .before .before .before .before .before .before .before .before .before .before .before .before .before .before .before .before .before .before .before .before .offer-numbers .ensures), c .before .before .before .before .before .before .before .before .before .before .run-batch .ensures .ahead .few, c .before .before .before .before .before .before .before .before .before .before .run-batch .kept .1 .1 .1 .1 .0, c .before .before .before .before .before .before .before .before .before .before .run-batch .kept .1 .1 .1 .1 .1 .0)
@@ -60,9 +39,6 @@ sub-t43 c = count-grows _ _ _ _ _ _ (c .before .before .before .before .before .
 add-t45 : tie.Need-add-t45
 add-t45 c = omega (arith, c .before .before .before .before .before .before .before .before .before .before .before .before .before .run-batch .ensures .most, c .before .before .before .before .before .before .before .before .before .before .before .before .before .before .before .before .before .before .before .before .before .before .before .before .before .before .before .before .before .before .before .fits .n .fits)
 
-same-length : tie.Need-same-length
-same-length c = search needs
-
 returns : tie.Need-returns
 returns c = batch-goes _ _ _ _ _ _ (c .before .before .before .before .before .before .before .before .before .before .before .before .before .before .before .before .before .before .before .before .before .before .before .before .before .before .before .before .before .before .before .args .stand) (c .before .before .before .before .before .before .before .before .before .before .before .before .before .before .before .before .before .before .before .before .before .before .before .before .before .before .before .before .before .before .before .pre .0) (c .before .before .before .before .before .before .before .before .before .before .before .before .before .before .before .before .before .before .before .before .before .before .before .before .before .before .before .before .before .before .before .pre .1) _ _ (c .before .before .before .before .before .before .before .before .before .before .before .before .before .before .before .before .before .before .before .before .before .before .before .before .before .before .before .terms-of .ensures) (c .before .before .before .before .before .before .before .before .before .before .before .before .before .before .before .before .before .before .before .before .before .before .before .before .before .before .offer-numbers .ensures) _ _ _ _ _ (c .before .before .before .before .before .before .before .before .before .before .before .before .before .run-batch .ensures) _ _ (c .before .before .rows-of .ensures) refl refl refl
 
@@ -70,20 +46,16 @@ pub go-on-in-range-spec : {M : Type 1} → statement M
 go-on-in-range-spec =
     tie.close
     (tie.spec
-    terms-of-requires
-    offer-numbers-requires
+    (λ c κs. search needs) (λ c κs. search needs)
     slice-aggregate-run-batch
     slice-aggregate-run-batch-2
     slice-aggregate-run-batch-3
     slice-aggregate-run-batch-4
-    slice-aggregate-run-batch-5
-    slice-aggregate-run-batch-6
-    slice-aggregate-run-batch-7
+    (λ c. search needs) (λ c. search needs) (λ c. search needs)
     run-batch-requires
-    slice-aggregate-rows-of
-    slice-aggregate-rows-of-2
+    (λ c. search needs) (λ c. search needs)
     rows-of-requires
     sub-t43
     add-t45
-    same-length
+    (λ c. search needs)
     returns)

@@ -6,14 +6,8 @@ use borrow.Author.Needs.{needs}
 use Rattle.batch.proofs.refusal_of.Statement.{statement}
 use Rattle.batch.proofs.refusal_of.Tie as tie
 
-sheet-holds-requires : tie.Need-sheet-holds-requires
-sheet-holds-requires c κs = search needs
-
 returns : tie.Need-returns
 returns c = sym (simp (sym (c .before .sheet-holds .ensures) ∙ not-true _ (c .if1 .taken)))
-
-book-fits-requires : tie.Need-book-fits-requires
-book-fits-requires c κs = search needs
 
 returns-2 : tie.Need-returns-2
 returns-2 c =
@@ -24,4 +18,4 @@ returns-3 c =
     sym (simp (sym (c .before .before .before .sheet-holds .ensures) ∙ not-false _ (c .before .before .if1 .left), sym (c .before .book-fits .ensures) ∙ not-false _ (c .if2 .left)))
 
 pub refusal-of-spec : {M : Type 1} → statement M
-refusal-of-spec = tie.close (tie.spec sheet-holds-requires returns book-fits-requires returns-2 returns-3)
+refusal-of-spec = tie.close (tie.spec (λ c κs. search needs) returns (λ c κs. search needs) returns-2 returns-3)

@@ -23,26 +23,11 @@ loop-holds : tie.Need-loop-holds Inv-loop μ-loop
 unfolding refusedFrom
 loop-holds c = (omega arith, refl, refl)
 
-sub-loop : tie.Need-sub-loop Inv-loop μ-loop
-sub-loop c = search needs
-
 add-asked-at : tie.Need-add-asked-at Inv-loop μ-loop
 add-asked-at c = omega (arith, c .before .before .before .before .fits .n .fits)
 
-asked-at-requires : tie.Need-asked-at-requires Inv-loop μ-loop
-asked-at-requires c κs = search needs
-
-decode-requires : tie.Need-decode-requires Inv-loop μ-loop
-decode-requires c κs = search needs
-
 add-reply : tie.Need-add-reply Inv-loop μ-loop
 add-reply c = omega (arith, c .before .before .before .loop-test .taken, c .before .before .before .before .before .before .before .fits .n .fits)
-
-start-of-requires : tie.Need-start-of-requires Inv-loop μ-loop
-start-of-requires c κs = search needs
-
-reply-requires : tie.Need-reply-requires Inv-loop μ-loop
-reply-requires c κs = search needs
 
 add-k : tie.Need-add-k Inv-loop μ-loop
 add-k c = omega (arith, c .before .before .before .before .before .before .before .loop-test .taken, c .before .before .before .before .before .before .before .before .before .before .before .fits .n .fits)
@@ -57,9 +42,6 @@ loop-again c = (
   refused-next _ _ _ _ (c .before .before .before .before .before .before .before .before .loop .k) _ _ _ (c .before .before .before .before .before .before .before .before .loop .inv .2) (c .before .before .before .start-of .ensures ∙ ap callStart (c .before .before .before .before .before .decode .ensures ∙ ap decoded (c .before .before .before .before .before .before .asked-at .ensures))) (c .before .before .reply .ensures),
 )
 
-same-length : tie.Need-same-length Inv-loop μ-loop
-same-length c = search needs
-
 returns : tie.Need-returns Inv-loop μ-loop
 returns c =
     let e : c .before .loop .k ≡ c .before .before .before .before .args .n - c .before .before .before .before .args .first = omega (arith, c .loop-test .left, c .before .loop .inv .0) in
@@ -72,15 +54,13 @@ refuse-all-spec =
     Inv-loop
     μ-loop
     loop-holds
-    sub-loop
+    (λ c. search needs)
     add-asked-at
-    asked-at-requires
-    decode-requires
+    (λ c κs. search needs) (λ c κs. search needs)
     add-reply
-    start-of-requires
-    reply-requires
+    (λ c κs. search needs) (λ c κs. search needs)
     add-k
     loop-less
     loop-again
-    same-length
+    (λ c. search needs)
     returns)

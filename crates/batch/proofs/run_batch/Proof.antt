@@ -28,9 +28,6 @@ loop-holds c = begun _ _ _ _ _ _ _ _ _ _ _ _ (c .before .before .before .before 
 add-has-room : tie.Need-add-has-room Inv-loop μ-loop
 add-has-room c = omega (arith, c .loop .inv .within, c .before .before .before .before .before .before .before .before .before .fits .n .fits)
 
-has-room-requires : tie.Need-has-room-requires Inv-loop μ-loop
-has-room-requires c κs = search needs
-
 -- a call is left, and there is room for its entry
 room : (c : tie.Then1 Inv-loop μ-loop) → (c .before .before .before .before .before .before .before .before .before .before .before .args .first + c .before .before .loop .turns < c .before .before .before .before .before .before .before .before .before .before .before .args .n) × (c .before .before .loop .filled < 16)
 room c = going _ _ _ (sym (c .before .has-room .ensures) ∙ c .if1 .taken)
@@ -39,42 +36,15 @@ room c = going _ _ _ (sym (c .before .has-room .ensures) ∙ c .if1 .taken)
 call-is : (c : tie.After-carry-out Inv-loop μ-loop) → c .before .before .before .before .before .before .decode .result ≡ decoded (askedAt (c .before .before .before .before .before .before .before .before .before .before .before .before .before .before .before .before .before .before .before .args .calls .now) (c .before .before .before .before .before .before .before .before .before .before .before .before .before .before .before .before .before .before .before .args .first + c .before .before .before .before .before .before .before .before .before .before .loop .turns))
 call-is c = c .before .before .before .before .before .before .decode .ensures ∙ ap decoded (c .before .before .before .before .before .before .before .asked-at .ensures)
 
-add-i : tie.Need-add-i Inv-loop μ-loop
-add-i c = search needs
-
-asked-at-requires : tie.Need-asked-at-requires Inv-loop μ-loop
-asked-at-requires c κs = search needs
-
-decode-requires : tie.Need-decode-requires Inv-loop μ-loop
-decode-requires c κs = search needs
-
 carry-out-requires : tie.Need-carry-out-requires Inv-loop μ-loop
 carry-out-requires c κs = ready-now _ _ _ _ _ _ _ _ _ _ _ _ (c .before .before .before .before .before .before .before .before .before .before .before .before .before .before .before .before .before .before .pre) _ _ _ _ _ _ _ (c .before .before .before .before .before .before .before .before .before .loop .inv) (room (c .before .before .before .before .before .before .before) .1)
-
-posted-of-requires : tie.Need-posted-of-requires Inv-loop μ-loop
-posted-of-requires c κs = search needs
-
-mul-hours : tie.Need-mul-hours Inv-loop μ-loop
-mul-hours c = search needs
 
 slice-write-hours : tie.Need-slice-write-hours Inv-loop μ-loop
 slice-write-hours c = omega (arith, room (c .before .before .before .before .before .before .before .before .before .before .before .before .before .before .before .before .before) .1, c .before .before .before .before .before .before .before .before .before .before .before .before .before .before .before .before .before .before .before .loop .inv .hours-long)
 
-number-of-requires : tie.Need-number-of-requires Inv-loop μ-loop
-number-of-requires c κs = search needs
-
-line-of-requires : tie.Need-line-of-requires Inv-loop μ-loop
-line-of-requires c κs = search needs
-
-reply-requires : tie.Need-reply-requires Inv-loop μ-loop
-reply-requires c κs = search needs
-
 add-total : tie.Need-add-total Inv-loop μ-loop
 add-total c =
     omega (arith, c .before .before .before .before .before .before .posted-of .ensures, total-fits _ _ _ _ _ _ _ _ _ _ _ _ (c .before .before .before .before .before .before .before .before .before .before .before .before .before .before .before .before .before .before .before .before .before .before .before .before .before .before .before .before .before .before .before .before .before .before .pre) _ _ _ _ _ _ _ (c .before .before .before .before .before .before .before .before .before .before .before .before .before .before .before .before .before .before .before .before .before .before .before .before .before .loop .inv) _ _ _ _ (call-is (c .before .before .before .before .before .before .before .before .before .before .before .before .before .before .before)) (c .before .before .before .before .before .before .before .before .before .before .before .before .before .before .before .carry-out .ensures) (room (c .before .before .before .before .before .before .before .before .before .before .before .before .before .before .before .before .before .before .before .before .before .before .before) .1))
-
-entries-of-requires : tie.Need-entries-of-requires Inv-loop μ-loop
-entries-of-requires c κs = search needs
 
 add-filled : tie.Need-add-filled Inv-loop μ-loop
 add-filled c = omega (arith, room (c .before .before .before .before .before .before .before .before .before .before .before .before .before .before .before .before .before .before .before .before .before .before .before .before) .1, c .entries-of .ensures, one-entry (c .before .before .before .before .before .before .before .before .before .before .before .before .before .before .before .before .carry-out .result .answer))
@@ -132,19 +102,13 @@ run-batch-spec =
     μ-loop
     loop-holds
     add-has-room
-    has-room-requires
-    add-i
-    asked-at-requires
-    decode-requires
+    (λ c κs. search needs) (λ c. search needs) (λ c κs. search needs) (λ c κs. search needs)
     carry-out-requires
-    posted-of-requires
-    mul-hours
+    (λ c κs. search needs) (λ c. search needs)
     slice-write-hours
-    number-of-requires
-    line-of-requires
-    reply-requires
+    (λ c κs. search needs) (λ c κs. search needs) (λ c κs. search needs)
     add-total
-    entries-of-requires
+    (λ c κs. search needs)
     add-filled
     add-turns
     loop-less

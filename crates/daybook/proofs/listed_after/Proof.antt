@@ -11,9 +11,6 @@ returns : tie.Need-returns
 unfolding listedAfter
 returns c = simp (lt-ltb _ _ (c .if1 .taken))
 
-add-result : tie.Need-add-result
-add-result c = search needs
-
 returns-2 : tie.Need-returns-2
 unfolding listedAfter
 returns-2 c = simp (le-ltb _ _ (c .before .if1 .left), lt-ltb _ _ (c .if2 .taken))
@@ -23,4 +20,4 @@ unfolding listedAfter
 returns-3 c = simp (le-ltb _ _ (c .before .if1 .left), le-ltb _ _ (c .if2 .left))
 
 pub listed-after-spec : {M : Type 1} → statement M
-listed-after-spec = tie.close (tie.spec returns add-result returns-2 returns-3)
+listed-after-spec = tie.close (tie.spec returns (λ c. search needs) returns-2 returns-3)

@@ -31,20 +31,8 @@ left sheet text out out₂ from n m start stand e f g h =
     ap₂ (λ (o : List ℕ) (s : Stand). output o (s .printed)) h g
     ∙ ap (λ (x : Running). output (x .out) (x .stand .printed)) (r ∙ begun-shown sheet text out from m)
 
-calls-from-requires : tie.Need-calls-from-requires
-calls-from-requires c κs = search needs
-
 turns-of-requires : tie.Need-turns-of-requires
 turns-of-requires c κs = omega (arith, c .before .calls-from .ensures .1, c .before .before .before .before .pre)
-
-started-requires : tie.Need-started-requires
-started-requires c κs = search needs
-
-day-requires : tie.Need-day-requires
-day-requires c κs = search needs
-
-same-length : tie.Need-same-length
-same-length c = search needs
 
 returns : tie.Need-returns
 unfolding callLines
@@ -60,12 +48,6 @@ returns c =
     let w : o1 ≡ written o lines = left (g .sheet) t (g .out .now) (d .last .1 .1 .0) (g .from) _ (turnsOf (extentOf t (g .from))) _ (d .result) n (c .before .before .before .before .before .started .ensures) (d .ensures .0) (d .ensures .1) in
     let h : extentOf t (g .from) .refusal ≡ 0 = ap (λ (e : Extent). e .refusal) (sym x) ∙ c .if1 .taken in
     simp (eq-eqb _ _ h) (then o o1 lines [] w (sym (written-none o1)))
-
-put-stop-requires : tie.Need-put-stop-requires
-put-stop-requires c κs = search needs
-
-same-length-2 : tie.Need-same-length-2
-same-length-2 c = search needs
 
 returns-2 : tie.Need-returns-2
 unfolding callLines
@@ -86,12 +68,9 @@ pub put-calls-spec : {M : Type 1} → statement M
 put-calls-spec =
     tie.close
     (tie.spec
-    calls-from-requires
+    (λ c κs. search needs)
     turns-of-requires
-    started-requires
-    day-requires
-    same-length
+    (λ c κs. search needs) (λ c κs. search needs) (λ c. search needs)
     returns
-    put-stop-requires
-    same-length-2
+    (λ c κs. search needs) (λ c. search needs)
     returns-2)

@@ -8,12 +8,6 @@ use borrow.Author.Needs.{needs}
 use Rattle.daybook.proofs.put_first_tables.Statement.{statement}
 use Rattle.daybook.proofs.put_first_tables.Tie as tie
 
-put-tables-requires : tie.Need-put-tables-requires
-put-tables-requires c κs = search needs
-
-same-length : tie.Need-same-length
-same-length c = search needs
-
 returns : tie.Need-returns
 unfolding firstTables
 returns c = simp (eq-eqb _ _ (c .before .before .before .before .if1 .taken)) (c .before .before .put-tables .ensures)
@@ -23,4 +17,4 @@ unfolding firstTables
 returns-2 c = simp (ne-eqb _ _ (c .if1 .left)) (sym (written-none _))
 
 pub put-first-tables-spec : {M : Type 1} → statement M
-put-first-tables-spec = tie.close (tie.spec put-tables-requires same-length returns returns-2)
+put-first-tables-spec = tie.close (tie.spec (λ c κs. search needs) (λ c. search needs) returns returns-2)

@@ -9,24 +9,9 @@ use borrow.Author.Needs.{needs}
 use Rattle.daybook.proofs.put_turn.Statement.{statement}
 use Rattle.daybook.proofs.put_turn.Tie as tie
 
-put-entry-requires : tie.Need-put-entry-requires
-put-entry-requires c κs = search needs
-
-same-length : tie.Need-same-length
-same-length c = search needs
-
 returns : tie.Need-returns
 unfolding turnText
 returns c = simp (lt-ltb _ _ (c .before .before .before .before .if1 .taken)) (c .before .before .put-entry .ensures)
-
-put-first-tables-requires : tie.Need-put-first-tables-requires
-put-first-tables-requires c κs = search needs
-
-put-listed-requires : tie.Need-put-listed-requires
-put-listed-requires c κs = search needs
-
-same-length-2 : tie.Need-same-length-2
-same-length-2 c = search needs
 
 returns-2 : tie.Need-returns-2
 unfolding turnText
@@ -42,10 +27,7 @@ pub put-turn-spec : {M : Type 1} → statement M
 put-turn-spec =
     tie.close
     (tie.spec
-    put-entry-requires
-    same-length
+    (λ c κs. search needs) (λ c. search needs)
     returns
-    put-first-tables-requires
-    put-listed-requires
-    same-length-2
+    (λ c κs. search needs) (λ c κs. search needs) (λ c. search needs)
     returns-2)

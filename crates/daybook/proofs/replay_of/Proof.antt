@@ -9,23 +9,8 @@ use borrow.Author.Needs.{needs}
 use Rattle.daybook.proofs.replay_of.Statement.{statement}
 use Rattle.daybook.proofs.replay_of.Tie as tie
 
-read-sheet-requires : tie.Need-read-sheet-requires
-read-sheet-requires c κs = search needs
-
-enum-known-answer : tie.Need-enum-known-answer
-enum-known-answer c = search needs
-
 put-calls-requires : tie.Need-put-calls-requires
 put-calls-requires c κs = read-short (c .before .before .before .before .before .before .before .before .args .text .now) _ (ap (λ (x : SheetRead). x .answer) (sym (c .before .before .before .before .before .read-sheet .ensures)) ∙ c .before .before .answer .given .1)
-
-enum-known-answer-2 : tie.Need-enum-known-answer-2
-enum-known-answer-2 c = search needs
-
-put-sheet-refused-requires : tie.Need-put-sheet-refused-requires
-put-sheet-refused-requires c κs = search needs
-
-same-length : tie.Need-same-length
-same-length c = search needs
 
 returns : tie.Need-returns
 returns c =
@@ -33,9 +18,6 @@ returns c =
     let o = output (g .out .now) 0 in
     let e : output (c .before .before .put-calls .last .0) (c .before .before .put-calls .result) ≡ written o (replayed (g .text .now)) = c .before .before .put-calls .ensures ∙ ap (written o) (read-printed (g .text .now) (c .before .before .before .before .before .before .before .before .read-sheet .result) _ (c .before .before .before .before .before .before .before .before .read-sheet .ensures) (c .before .before .before .before .before .answer .given .1)) in
     (e, printed-within (g .out .now) (c .before .before .put-calls .last .0) _ (replayed (g .text .now)) e)
-
-same-length-2 : tie.Need-same-length-2
-same-length-2 c = search needs
 
 returns-2 : tie.Need-returns-2
 returns-2 c =
@@ -48,12 +30,9 @@ pub replay-of-spec : {M : Type 1} → statement M
 replay-of-spec =
     tie.close
     (tie.spec
-    read-sheet-requires
-    enum-known-answer
+    (λ c κs. search needs) (λ c. search needs)
     put-calls-requires
-    enum-known-answer-2
-    put-sheet-refused-requires
-    same-length
+    (λ c. search needs) (λ c κs. search needs) (λ c. search needs)
     returns
-    same-length-2
+    (λ c. search needs)
     returns-2)

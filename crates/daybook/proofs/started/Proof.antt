@@ -7,11 +7,8 @@ use borrow.Author.Needs.{needs}
 use Rattle.daybook.proofs.started.Statement.{statement}
 use Rattle.daybook.proofs.started.Tie as tie
 
-empty-book-requires : tie.Need-empty-book-requires
-empty-book-requires c κs = search needs
-
 returns : tie.Need-returns
 returns c = ap {B = Stand} (λ (b : Book). record { count = 0; book = b; at = c .before .args .at; listed = 0; printed = 0 }) (c .empty-book .ensures)
 
 pub started-spec : {M : Type 1} → statement M
-started-spec = tie.close (tie.spec empty-book-requires returns)
+started-spec = tie.close (tie.spec (λ c κs. search needs) returns)

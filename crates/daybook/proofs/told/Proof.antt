@@ -8,15 +8,6 @@ use borrow.Author.Needs.{needs}
 use Rattle.daybook.proofs.told.Statement.{statement}
 use Rattle.daybook.proofs.told.Tie as tie
 
-put-turn-requires : tie.Need-put-turn-requires
-put-turn-requires c κs = search needs
-
-listed-after-requires : tie.Need-listed-after-requires
-listed-after-requires c κs = search needs
-
-same-length : tie.Need-same-length
-same-length c = search needs
-
 returns : tie.Need-returns
 unfolding toldTo
 returns c =
@@ -24,4 +15,4 @@ returns c =
     ap₂ {C = Told} (λ (w : Output) (n : ℕ). record { out = w .buffer; stand = record { count = g .o .count; book = g .o .book; at = g .asking .next; listed = n; printed = w .place } }) (c .before .before .before .put-turn .ensures) (c .listed-after .ensures)
 
 pub told-spec : {M : Type 1} → statement M
-told-spec = tie.close (tie.spec put-turn-requires listed-after-requires same-length returns)
+told-spec = tie.close (tie.spec (λ c κs. search needs) (λ c κs. search needs) (λ c. search needs) returns)

@@ -6,9 +6,6 @@ use borrow.Author.Needs.{needs}
 use Rattle.daybook.proofs.turns_of.Statement.{statement}
 use Rattle.daybook.proofs.turns_of.Tie as tie
 
-add-result : tie.Need-add-result
-add-result c = search needs
-
 returns : tie.Need-returns
 unfolding turnsOf
 returns c = simp (eq-eqb _ _ (c .before .if1 .taken))
@@ -18,4 +15,4 @@ unfolding turnsOf
 returns-2 c = simp (ne-eqb _ _ (c .if1 .left))
 
 pub turns-of-spec : {M : Type 1} → statement M
-turns-of-spec = tie.close (tie.spec add-result returns returns-2)
+turns-of-spec = tie.close (tie.spec (λ c. search needs) returns returns-2)

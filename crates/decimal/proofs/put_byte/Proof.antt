@@ -6,15 +6,6 @@ use Rattle.decimal.specs.Output.{withByte}
 use Rattle.decimal.proofs.put_byte.Statement.{statement}
 use Rattle.decimal.proofs.put_byte.Tie as tie
 
-slice-write-out : tie.Need-slice-write-out
-slice-write-out c = search needs
-
-add-result : tie.Need-add-result
-add-result c = search needs
-
-same-length : tie.Need-same-length
-same-length c = search needs
-
 returns : tie.Need-returns
 unfolding withByte
 returns c = simp (lt-ltb _ _ (c .if1 .taken))
@@ -24,4 +15,4 @@ unfolding withByte
 returns-2 c = simp (le-ltb _ _ (c .if1 .left))
 
 pub put-byte-spec : {M : Type 1} → statement M
-put-byte-spec = tie.close (tie.spec slice-write-out add-result same-length returns returns-2)
+put-byte-spec = tie.close (tie.spec (λ c. search needs) (λ c. search needs) (λ c. search needs) returns returns-2)

@@ -12,18 +12,6 @@ use borrow.Author.Needs.{needs}
 use Rattle.decimal.proofs.put_signed.Statement.{statement}
 use Rattle.decimal.proofs.put_signed.Tie as tie
 
-size-requires : tie.Need-size-requires
-size-requires c κs = search needs
-
-put-byte-requires : tie.Need-put-byte-requires
-put-byte-requires c κs = search needs
-
-put-number-requires : tie.Need-put-number-requires
-put-number-requires c κs = search needs
-
-same-length : tie.Need-same-length
-same-length c = search needs
-
 returns : tie.Need-returns
 returns c =
     let g = c .before .before .before .before .before .before .before .before .before .before .before .args in
@@ -34,12 +22,6 @@ returns c =
     ∙ (ap (λ (k : ℕ). written (withByte o 45) (digits k)) (rw (toZ-ofZ (c .before .before .before .before .before .before .before .before .before .before .before .fits .z)) at (c .before .before .before .before .before .before .before .before .before .size .ensures))
     ∙ (written-after o 45 (digits (natAbs (g .z)))
     ∙ ap (written o) (sym (signed-below (g .z) (rw (toZ-ofZ (c .before .before .before .before .before .before .before .before .before .before .before .fits .z)) at (c .before .before .before .before .before .before .before .before .if1 .taken)))))))
-
-put-number-requires-2 : tie.Need-put-number-requires-2
-put-number-requires-2 c κs = search needs
-
-same-length-2 : tie.Need-same-length-2
-same-length-2 c = search needs
 
 returns-2 : tie.Need-returns-2
 returns-2 c =
@@ -53,11 +35,7 @@ pub put-signed-spec : {M : Type 1} → statement M
 put-signed-spec =
     tie.close
     (tie.spec
-    size-requires
-    put-byte-requires
-    put-number-requires
-    same-length
+    (λ c κs. search needs) (λ c κs. search needs) (λ c κs. search needs) (λ c. search needs)
     returns
-    put-number-requires-2
-    same-length-2
+    (λ c κs. search needs) (λ c. search needs)
     returns-2)

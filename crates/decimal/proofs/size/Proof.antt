@@ -43,8 +43,5 @@ cast-result-2 c =
     let a = size-above z (c .before .fits .z .sfits) (above c) in
     rw (toZ-ofZ (c .before .fits .z)) (a .0, record { fits = omega (arith, a .1) })
 
-returns-2 : tie.Need-returns-2
-returns-2 c = search needs
-
 pub size-spec : {M : Type 1} → statement M
-size-spec = tie.close (tie.spec sub-result cast-result add-result returns cast-result-2 returns-2)
+size-spec = tie.close (tie.spec sub-result cast-result add-result returns cast-result-2 (λ c. search needs))

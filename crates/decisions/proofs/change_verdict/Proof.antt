@@ -6,15 +6,9 @@ use borrow.Author.Needs.{needs}
 use Rattle.decisions.proofs.change_verdict.Statement.{statement}
 use Rattle.decisions.proofs.change_verdict.Tie as tie
 
-hour-bad-requires : tie.Need-hour-bad-requires
-hour-bad-requires c κs = search needs
-
 returns : tie.Need-returns
 unfolding verdict
 returns c = simp (sym (c .before .hour-bad .ensures) ∙ c .if1 .taken)
-
-units-unknown-requires : tie.Need-units-unknown-requires
-units-unknown-requires c κs = search needs
 
 returns-2 : tie.Need-returns-2
 unfolding verdict
@@ -22,9 +16,6 @@ returns-2 c = simp (
   sym (c .before .before .before .hour-bad .ensures) ∙ c .before .before .if1 .left,
   sym (c .before .units-unknown .ensures) ∙ c .if2 .taken,
 )
-
-same-units-requires : tie.Need-same-units-requires
-same-units-requires c κs = search needs
 
 returns-3 : tie.Need-returns-3
 unfolding verdict
@@ -43,9 +34,6 @@ returns-4 c = simp (
   c .if4 .taken,
 )
 
-no-amount-requires : tie.Need-no-amount-requires
-no-amount-requires c κs = search needs
-
 returns-5 : tie.Need-returns-5
 unfolding verdict
 returns-5 c = simp (
@@ -55,9 +43,6 @@ returns-5 c = simp (
   c .before .before .if4 .left,
   sym (c .before .no-amount .ensures) ∙ c .if5 .taken,
 )
-
-exceeds-requires : tie.Need-exceeds-requires
-exceeds-requires c κs = search needs
 
 returns-6 : tie.Need-returns-6
 unfolding verdict
@@ -69,9 +54,6 @@ returns-6 c = simp (
   sym (c .before .before .before .no-amount .ensures) ∙ c .before .before .if5 .left,
   sym (c .before .exceeds .ensures) ∙ c .if6 .taken,
 )
-
-over-offer-requires : tie.Need-over-offer-requires
-over-offer-requires c κs = search needs
 
 returns-7 : tie.Need-returns-7
 unfolding verdict
@@ -101,17 +83,17 @@ pub change-verdict-spec : {M : Type 1} → statement M
 change-verdict-spec =
     tie.close
     (tie.spec
-    hour-bad-requires
+    (λ c κs. search needs)
     returns
-    units-unknown-requires
+    (λ c κs. search needs)
     returns-2
-    same-units-requires
+    (λ c κs. search needs)
     returns-3
     returns-4
-    no-amount-requires
+    (λ c κs. search needs)
     returns-5
-    exceeds-requires
+    (λ c κs. search needs)
     returns-6
-    over-offer-requires
+    (λ c κs. search needs)
     returns-7
     returns-8)

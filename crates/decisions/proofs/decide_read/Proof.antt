@@ -8,27 +8,12 @@ use borrow.Author.Needs.{needs}
 use Rattle.decisions.proofs.decide_read.Statement.{statement}
 use Rattle.decisions.proofs.decide_read.Tie as tie
 
-minutes-hold-requires : tie.Need-minutes-hold-requires
-minutes-hold-requires c κs = search needs
-
-hour-refused-requires : tie.Need-hour-refused-requires
-hour-refused-requires c κs = search needs
-
 returns : tie.Need-returns
 returns c =
     let a = c .before .before .before .args in
     c .hour-refused .ensures
     ∙ record-31 (a .day) (a .held) (a .again) (a .settled) (a .start) (a .read) (a .place) (a .count) (a .places)
     (sym (c .before .before .minutes-hold .ensures) ∙ not-true _ (c .before .if1 .taken))
-
-stands-otherwise-requires : tie.Need-stands-otherwise-requires
-stands-otherwise-requires c κs = search needs
-
-standing-requires : tie.Need-standing-requires
-standing-requires c κs = search needs
-
-hour-refused-requires-2 : tie.Need-hour-refused-requires-2
-hour-refused-requires-2 c κs = search needs
 
 returns-2 : tie.Need-returns-2
 returns-2 c =
@@ -42,9 +27,6 @@ returns-2 c =
 readings-hold-requires : tie.Need-readings-hold-requires
 readings-hold-requires c κs = due-range (c .before .before .before .before .pre)
 
-hour-refused-requires-3 : tie.Need-hour-refused-requires-3
-hour-refused-requires-3 c κs = search needs
-
 returns-3 : tie.Need-returns-3
 returns-3 c =
     let a = c .before .before .before .before .before .before .before .args in
@@ -57,9 +39,6 @@ returns-3 c =
 proportions-hold-requires : tie.Need-proportions-hold-requires
 proportions-hold-requires c κs = due-given (c .before .before .before .before .before .before .pre)
 
-hour-refused-requires-4 : tie.Need-hour-refused-requires-4
-hour-refused-requires-4 c κs = search needs
-
 returns-4 : tie.Need-returns-4
 returns-4 c =
     let a = c .before .before .before .before .before .before .before .before .before .args in
@@ -69,12 +48,6 @@ returns-4 c =
     (sym (c .before .before .before .before .before .before .stands-otherwise .ensures) ∙ c .before .before .before .before .before .if2 .left)
     (sym (c .before .before .before .before .readings-hold .ensures) ∙ not-false _ (c .before .before .before .if3 .left))
     (sym (c .before .before .proportions-hold .ensures) ∙ not-true _ (c .before .if4 .taken))
-
-short-of-requires : tie.Need-short-of-requires
-short-of-requires c κs = search needs
-
-hour-refused-requires-5 : tie.Need-hour-refused-requires-5
-hour-refused-requires-5 c κs = search needs
 
 returns-5 : tie.Need-returns-5
 returns-5 c =
@@ -89,9 +62,6 @@ returns-5 c =
 
 settle-hour-requires : tie.Need-settle-hour-requires
 settle-hour-requires c κs = c .before .before .before .before .before .before .before .before .before .before .pre
-
-hour-changed-requires : tie.Need-hour-changed-requires
-hour-changed-requires c κs = search needs
 
 returns-6 : tie.Need-returns-6
 returns-6 c =
@@ -109,22 +79,18 @@ pub decide-read-spec : {M : Type 1} → statement M
 decide-read-spec =
     tie.close
     (tie.spec
-    minutes-hold-requires
-    hour-refused-requires
+    (λ c κs. search needs) (λ c κs. search needs)
     returns
-    stands-otherwise-requires
-    standing-requires
-    hour-refused-requires-2
+    (λ c κs. search needs) (λ c κs. search needs) (λ c κs. search needs)
     returns-2
     readings-hold-requires
-    hour-refused-requires-3
+    (λ c κs. search needs)
     returns-3
     proportions-hold-requires
-    hour-refused-requires-4
+    (λ c κs. search needs)
     returns-4
-    short-of-requires
-    hour-refused-requires-5
+    (λ c κs. search needs) (λ c κs. search needs)
     returns-5
     settle-hour-requires
-    hour-changed-requires
+    (λ c κs. search needs)
     returns-6)

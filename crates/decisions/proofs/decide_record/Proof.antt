@@ -6,15 +6,6 @@ use borrow.Author.Needs.{needs}
 use Rattle.decisions.proofs.decide_record.Statement.{statement}
 use Rattle.decisions.proofs.decide_record.Tie as tie
 
-enum-known-answer : tie.Need-enum-known-answer
-enum-known-answer c = search needs
-
-hour-refused-requires : tie.Need-hour-refused-requires
-hour-refused-requires c κs = search needs
-
-enum-known-answer-2 : tie.Need-enum-known-answer-2
-enum-known-answer-2 c = search needs
-
 decide-read-requires : tie.Need-decide-read-requires
 decide-read-requires c κs = c .before .before .before .before .pre _ (c .before .answer2 .given .1)
 
@@ -34,9 +25,7 @@ pub decide-record-spec : {M : Type 1} → statement M
 decide-record-spec =
     tie.close
     (tie.spec
-    enum-known-answer
-    hour-refused-requires
-    enum-known-answer-2
+    (λ c. search needs) (λ c κs. search needs) (λ c. search needs)
     decide-read-requires
     returns
     returns-2)

@@ -8,15 +8,9 @@ use borrow.Author.Needs.{needs}
 use Rattle.decisions.proofs.entry_index.Statement.{statement}
 use Rattle.decisions.proofs.entry_index.Tie as tie
 
-hour-bad-requires : tie.Need-hour-bad-requires
-hour-bad-requires c κs = search needs
-
 returns : tie.Need-returns
 unfolding entryIndex
 returns c = (simp (sym (c .before .hour-bad .ensures) ∙ c .if1 .taken), omega arith)
-
-no-unit-requires : tie.Need-no-unit-requires
-no-unit-requires c κs = search needs
 
 returns-2 : tie.Need-returns-2
 unfolding entryIndex
@@ -57,9 +51,9 @@ pub entry-index-spec : {M : Type 1} → statement M
 entry-index-spec =
     tie.close
     (tie.spec
-    hour-bad-requires
+    (λ c κs. search needs)
     returns
-    no-unit-requires
+    (λ c κs. search needs)
     returns-2
     sub-result
     mul-result

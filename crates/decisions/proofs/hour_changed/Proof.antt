@@ -6,9 +6,6 @@ use borrow.Author.Needs.{needs}
 use Rattle.decisions.proofs.hour_changed.Statement.{statement}
 use Rattle.decisions.proofs.hour_changed.Tie as tie
 
-unit-count-requires : tie.Need-unit-count-requires
-unit-count-requires c κs = search needs
-
 mul-t7 : tie.Need-mul-t7
 mul-t7 c = omega (arith, c .unit-count .ensures, ones-le 64 (c .before .args .units) (c .before .fits .units .fits))
 
@@ -16,4 +13,4 @@ returns : tie.Need-returns
 returns c = rw (c .unit-count .ensures)
 
 pub hour-changed-spec : {M : Type 1} → statement M
-hour-changed-spec = tie.close (tie.spec unit-count-requires mul-t7 returns)
+hour-changed-spec = tie.close (tie.spec (λ c κs. search needs) mul-t7 returns)

@@ -8,9 +8,6 @@ use borrow.Author.Needs.{needs}
 use Rattle.decisions.proofs.hour_index.Statement.{statement}
 use Rattle.decisions.proofs.hour_index.Tie as tie
 
-hour-bad-requires : tie.Need-hour-bad-requires
-hour-bad-requires c κs = search needs
-
 returns : tie.Need-returns
 unfolding hourIndex
 returns c = (simp (sym (c .before .hour-bad .ensures) ∙ c .if1 .taken), omega arith)
@@ -26,4 +23,4 @@ returns-2 c =
     (simp e, omega (arith, h .0, h .1))
 
 pub hour-index-spec : {M : Type 1} → statement M
-hour-index-spec = tie.close (tie.spec hour-bad-requires returns sub-result returns-2)
+hour-index-spec = tie.close (tie.spec (λ c κs. search needs) returns sub-result returns-2)

@@ -4,11 +4,8 @@ use borrow.Author.Needs.{needs}
 use Rattle.decisions.proofs.hour_refused.Statement.{statement}
 use Rattle.decisions.proofs.hour_refused.Tie as tie
 
-no-result-requires : tie.Need-no-result-requires
-no-result-requires c κs = search needs
-
 returns : tie.Need-returns
 returns c = rw (c .no-result .ensures)
 
 pub hour-refused-spec : {M : Type 1} → statement M
-hour-refused-spec = tie.close (tie.spec no-result-requires returns)
+hour-refused-spec = tie.close (tie.spec (λ c κs. search needs) returns)

@@ -5,12 +5,6 @@ use borrow.Author.Needs.{needs}
 use Rattle.decisions.proofs.no_amount.Statement.{statement}
 use Rattle.decisions.proofs.no_amount.Tie as tie
 
-equals-requires : tie.Need-equals-requires
-equals-requires c κs = search needs
-
-equals-requires-2 : tie.Need-equals-requires-2
-equals-requires-2 c κs = search needs
-
 returns : tie.Need-returns
 returns c = simp (sym (c .before .before .equals .ensures) ∙ c .before .if1 .taken) (c .equals2 .ensures)
 
@@ -18,4 +12,4 @@ returns-2 : tie.Need-returns-2
 returns-2 c = simp (sym (c .before .equals .ensures) ∙ c .if1 .left)
 
 pub no-amount-spec : {M : Type 1} → statement M
-no-amount-spec = tie.close (tie.spec equals-requires equals-requires-2 returns returns-2)
+no-amount-spec = tie.close (tie.spec (λ c κs. search needs) (λ c κs. search needs) returns returns-2)

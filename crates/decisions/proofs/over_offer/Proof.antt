@@ -17,20 +17,11 @@ rest last held kwh h = by (ltb (last - kwh) held) refl
     by true e = let l = ltb-true (last - kwh) held e in sym (lt-ltb last (held + kwh) (omega arith))
     by false e = let l = ltb-false (last - kwh) held e in sym (le-ltb last (held + kwh) (omega arith))
 
-exceeds-requires : tie.Need-exceeds-requires
-exceeds-requires c κs = search needs
-
 returns : tie.Need-returns
 returns c =
     let a = c .before .before .args in
     let l = ltb-true (a .last .0) (a .kwh .0) (sym (c .before .exceeds .ensures) ∙ c .if1 .taken) in
     sym (lt-ltb (a .last .0) (a .held .0 + a .kwh .0) (omega arith))
-
-above-requires : tie.Need-above-requires
-above-requires c κs = search needs
-
-exceeds-requires-2 : tie.Need-exceeds-requires-2
-exceeds-requires-2 c κs = search needs
 
 returns-2 : tie.Need-returns-2
 returns-2 c =
@@ -41,4 +32,9 @@ returns-2 c =
 
 pub over-offer-spec : {M : Type 1} → statement M
 over-offer-spec =
-    tie.close (tie.spec exceeds-requires returns above-requires exceeds-requires-2 returns-2)
+    tie.close
+    (tie.spec
+    (λ c κs. search needs)
+    returns
+    (λ c κs. search needs) (λ c κs. search needs)
+    returns-2)

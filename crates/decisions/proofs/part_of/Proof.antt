@@ -42,21 +42,6 @@ module _ (l : List ℕ) (begin end first last : ℕ) (el : last ≡ min end (len
           sym (empty (last - first) (drop first l) (omega (arith, n)))
           ∙ (sym (take-nil (end - begin)) ∙ ap (take (end - begin)) (sym (drop-of-length-le l {i = begin} (omega (arith, n, m)))))
 
-least-requires : tie.Need-least-requires
-least-requires c κs = search needs
-
-least-requires-2 : tie.Need-least-requires-2
-least-requires-2 c κs = search needs
-
-sub-result : tie.Need-sub-result
-sub-result c = search needs
-
-part-result-start : tie.Need-part-result-start
-part-result-start c = search needs
-
-part-result-end : tie.Need-part-result-end
-part-result-end c = search needs
-
 returns : tie.Need-returns
 unfolding partOf
 returns c = clipped (c .before .before .before .before .args .text .now) _ _ _ _ (c .before .before .least .ensures) (c .before .least2 .ensures)
@@ -64,4 +49,6 @@ returns c = clipped (c .before .before .before .before .args .text .now) _ _ _ _
 pub part-of-spec : {M : Type 1} → statement M
 part-of-spec =
     tie.close
-    (tie.spec least-requires least-requires-2 sub-result part-result-start part-result-end returns)
+    (tie.spec
+    (λ c κs. search needs) (λ c κs. search needs) (λ c. search needs) (λ c. search needs) (λ c. search needs)
+    returns)

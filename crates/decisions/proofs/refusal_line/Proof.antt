@@ -36,12 +36,6 @@ no-line HourStands k = refl
 no-line HourOpen k = refl
 no-line NoPlaces k = refl
 
-enum-known-refusal : tie.Need-enum-known-refusal
-enum-known-refusal c = search needs
-
-text-line-requires : tie.Need-text-line-requires
-text-line-requires c κs = search needs
-
 returns : tie.Need-returns
 returns c = c .text-line .ensures ∙ sym (ap refusalLine (c .before .before .refusal .given .1))
 
@@ -49,4 +43,4 @@ returns-2 : tie.Need-returns-2
 returns-2 c = no-line (c .before .args .refusal) (c .match .keys2)
 
 pub refusal-line-spec : {M : Type 1} → statement M
-refusal-line-spec = tie.close (tie.spec enum-known-refusal text-line-requires returns returns-2)
+refusal-line-spec = tie.close (tie.spec (λ c. search needs) (λ c κs. search needs) returns returns-2)

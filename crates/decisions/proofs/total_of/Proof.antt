@@ -8,22 +8,10 @@ use borrow.Author.Needs.{needs}
 use Rattle.decisions.proofs.total_of.Statement.{statement}
 use Rattle.decisions.proofs.total_of.Tie as tie
 
-sheet-holds-requires : tie.Need-sheet-holds-requires
-sheet-holds-requires c κs = search needs
-
-no-total-requires : tie.Need-no-total-requires
-no-total-requires c κs = search needs
-
 returns : tie.Need-returns
 unfolding totalDecided totalBy
 returns c = c .no-total .ensures ∙ simp
     (sym (c .before .before .sheet-holds .ensures) ∙ not-true _ (c .before .if1 .taken))
-
-book-fits-requires : tie.Need-book-fits-requires
-book-fits-requires c κs = search needs
-
-no-total-requires-2 : tie.Need-no-total-requires-2
-no-total-requires-2 c κs = search needs
 
 returns-2 : tie.Need-returns-2
 unfolding totalDecided totalBy
@@ -32,12 +20,6 @@ returns-2 c = c .no-total2 .ensures ∙ simp (
   sym (c .before .before .book-fits .ensures) ∙ not-true _ (c .before .if2 .taken),
 )
 
-has-unit-requires : tie.Need-has-unit-requires
-has-unit-requires c κs = search needs
-
-no-total-requires-3 : tie.Need-no-total-requires-3
-no-total-requires-3 c κs = search needs
-
 returns-3 : tie.Need-returns-3
 unfolding totalDecided totalBy
 returns-3 c = c .no-total3 .ensures ∙ simp (
@@ -45,12 +27,6 @@ returns-3 c = c .no-total3 .ensures ∙ simp (
   sym (c .before .before .before .before .book-fits .ensures) ∙ not-false _ (c .before .before .before .if2 .left),
   sym (c .before .before .has-unit .ensures) ∙ not-true _ (c .before .if3 .taken),
 )
-
-item-known-requires : tie.Need-item-known-requires
-item-known-requires c κs = search needs
-
-no-total-requires-4 : tie.Need-no-total-requires-4
-no-total-requires-4 c κs = search needs
 
 returns-4 : tie.Need-returns-4
 unfolding totalDecided totalBy
@@ -76,16 +52,12 @@ pub total-of-spec : {M : Type 1} → statement M
 total-of-spec =
     tie.close
     (tie.spec
-    sheet-holds-requires
-    no-total-requires
+    (λ c κs. search needs) (λ c κs. search needs)
     returns
-    book-fits-requires
-    no-total-requires-2
+    (λ c κs. search needs) (λ c κs. search needs)
     returns-2
-    has-unit-requires
-    no-total-requires-3
+    (λ c κs. search needs) (λ c κs. search needs)
     returns-3
-    item-known-requires
-    no-total-requires-4
+    (λ c κs. search needs) (λ c κs. search needs)
     returns-4
     returns-5)

@@ -7,17 +7,11 @@ use borrow.Author.Needs.{needs}
 use Rattle.decisions.proofs.units_unknown.Statement.{statement}
 use Rattle.decisions.proofs.units_unknown.Tie as tie
 
-has-unit-requires : tie.Need-has-unit-requires
-has-unit-requires c κs = search needs
-
 returns : tie.Need-returns
 returns c = simp (sym (c .before .has-unit .ensures) ∙ not-true _ (c .if1 .taken))
-
-has-unit-requires-2 : tie.Need-has-unit-requires-2
-has-unit-requires-2 c κs = search needs
 
 returns-2 : tie.Need-returns-2
 returns-2 c = simp (sym (c .before .before .has-unit .ensures) ∙ not-false _ (c .before .if1 .left)) (ap not (c .has-unit2 .ensures))
 
 pub units-unknown-spec : {M : Type 1} → statement M
-units-unknown-spec = tie.close (tie.spec has-unit-requires returns has-unit-requires-2 returns-2)
+units-unknown-spec = tie.close (tie.spec (λ c κs. search needs) returns (λ c κs. search needs) returns-2)

@@ -5,12 +5,9 @@ use borrow.Author.Needs.{needs}
 use Rattle.energy.proofs.grains_of.Statement.{statement}
 use Rattle.energy.proofs.grains_of.Tie as tie
 
-mul-t2 : tie.Need-mul-t2
-mul-t2 c = search needs
-
 returns : tie.Need-returns
 unfolding grainsOf
 returns c = search needs
 
 pub grains-of-spec : {M : Type 1} → statement M
-grains-of-spec = tie.close (tie.spec mul-t2 returns)
+grains-of-spec = tie.close (tie.spec (λ c. search needs) returns)

@@ -7,9 +7,6 @@ use borrow.Author.Needs.{needs}
 use Rattle.energy.proofs.hub_of.Statement.{statement}
 use Rattle.energy.proofs.hub_of.Tie as tie
 
-sub-kept : tie.Need-sub-kept
-sub-kept c = search needs
-
 mul-product : tie.Need-mul-product
 mul-product c = omega (arith, kept-le (c .before .args .net .0) (c .before .args .loss))
 
@@ -18,4 +15,4 @@ unfolding hubOf
 returns c = search needs
 
 pub hub-of-spec : {M : Type 1} → statement M
-hub-of-spec = tie.close (tie.spec sub-kept mul-product returns)
+hub-of-spec = tie.close (tie.spec (λ c. search needs) mul-product returns)

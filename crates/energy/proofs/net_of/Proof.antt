@@ -7,9 +7,6 @@ use borrow.Author.Needs.{needs}
 use Rattle.energy.proofs.net_of.Statement.{statement}
 use Rattle.energy.proofs.net_of.Tie as tie
 
-sub-kept : tie.Need-sub-kept
-sub-kept c = search needs
-
 mul-product : tie.Need-mul-product
 mul-product c = omega (arith, kept-le (c .before .args .gross .0) (c .before .args .own))
 
@@ -18,4 +15,4 @@ unfolding netOf
 returns c = search needs
 
 pub net-of-spec : {M : Type 1} → statement M
-net-of-spec = tie.close (tie.spec sub-kept mul-product returns)
+net-of-spec = tie.close (tie.spec (λ c. search needs) mul-product returns)

@@ -7,30 +7,6 @@ use Rattle.engine.proofs.record_hour.Tie as tie
 use Rattle.engine.proofs.HourReady.{hour-at, record-due, record-ready}
 use Rattle.engine.proofs.HourDecided.{record-carried}
 
-read-record-requires : tie.Need-read-record-requires
-read-record-requires c κs = search needs
-
-hour-index-requires : tie.Need-hour-index-requires
-hour-index-requires c κs = search needs
-
-mul-settled : tie.Need-mul-settled
-mul-settled c = search needs
-
-slice-read-settled : tie.Need-slice-read-settled
-slice-read-settled c = search needs
-
-held-in-requires : tie.Need-held-in-requires
-held-in-requires c κs = search needs
-
-add-hour-sheet : tie.Need-add-hour-sheet
-add-hour-sheet c = search needs
-
-offers-in-requires : tie.Need-offers-in-requires
-offers-in-requires c κs = search needs
-
-hour-sheet-requires : tie.Need-hour-sheet-requires
-hour-sheet-requires c κs = search needs
-
 decide-record-requires : tie.Need-decide-record-requires
 decide-record-requires c κs =
     record-due
@@ -52,18 +28,6 @@ store-hour-requires c κs =
     (c .before .before .before .before .before .before .before .before .before .before .before .before .before .before .before .before .before .before .pre) _ _ _
     (c .before .before .before .before .decide-record .ensures)
 
-same-length : tie.Need-same-length
-same-length c = search needs
-
-same-length-2 : tie.Need-same-length-2
-same-length-2 c = search needs
-
-same-length-3 : tie.Need-same-length-3
-same-length-3 c = search needs
-
-same-length-4 : tie.Need-same-length-4
-same-length-4 c = search needs
-
 returns : tie.Need-returns
 returns c =
     record-carried
@@ -81,18 +45,9 @@ pub record-hour-spec : {M : Type 1} → statement M
 record-hour-spec =
     tie.close
     (tie.spec
-    read-record-requires
-    hour-index-requires
-    mul-settled
-    slice-read-settled
-    held-in-requires
-    add-hour-sheet
-    offers-in-requires
-    hour-sheet-requires
+    (λ c κs. search needs) (λ c κs. search needs) (λ c. search needs) (λ c. search needs) (λ c κs. search needs)
+    (λ c. search needs) (λ c κs. search needs) (λ c κs. search needs)
     decide-record-requires
     store-hour-requires
-    same-length
-    same-length-2
-    same-length-3
-    same-length-4
+    (λ c. search needs) (λ c. search needs) (λ c. search needs) (λ c. search needs)
     returns)

@@ -12,9 +12,6 @@ returns : tie.Need-returns
 returns c =
     (refl, λ commitment. stored-none _ _ _ _ commitment _ _ _ _ (not-true _ (c .if1 .taken)))
 
-mul-differ : tie.Need-mul-differ
-mul-differ c = search needs
-
 differ-requires : tie.Need-differ-requires
 differ-requires c κs =
     let p = c .before .before .before .before .before .before .before .before .before .pre in
@@ -25,27 +22,6 @@ store-amounts-requires : tie.Need-store-amounts-requires
 store-amounts-requires c κs =
     let p = c .before .before .before .before .before .before .before .before .before .before .before .before .pre in
     (p .hour-in, p .amounts-long, p .five (not-false _ (c .before .before .before .before .before .before .before .before .if1 .left)))
-
-store-energies-requires : tie.Need-store-energies-requires
-store-energies-requires c κs = search needs
-
-mul-mark : tie.Need-mul-mark
-mul-mark c = search needs
-
-slice-write-mark : tie.Need-slice-write-mark
-slice-write-mark c = search needs
-
-same-length : tie.Need-same-length
-same-length c = search needs
-
-same-length-2 : tie.Need-same-length-2
-same-length-2 c = search needs
-
-same-length-3 : tie.Need-same-length-3
-same-length-3 c = search needs
-
-same-length-4 : tie.Need-same-length-4
-same-length-4 c = search needs
 
 returns-2 : tie.Need-returns-2
 returns-2 c = (
@@ -63,14 +39,9 @@ store-hour-spec =
     tie.close
     (tie.spec
     returns
-    mul-differ
+    (λ c. search needs)
     differ-requires
     store-amounts-requires
-    store-energies-requires
-    mul-mark
-    slice-write-mark
-    same-length
-    same-length-2
-    same-length-3
-    same-length-4
+    (λ c κs. search needs) (λ c. search needs) (λ c. search needs) (λ c. search needs) (λ c. search needs)
+    (λ c. search needs) (λ c. search needs)
     returns-2)

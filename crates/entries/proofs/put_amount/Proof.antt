@@ -12,15 +12,6 @@ use borrow.Author.Needs.{needs}
 use Rattle.entries.proofs.put_amount.Statement.{statement}
 use Rattle.entries.proofs.put_amount.Tie as tie
 
-put-byte-requires : tie.Need-put-byte-requires
-put-byte-requires c κs = search needs
-
-put-signed-requires : tie.Need-put-signed-requires
-put-signed-requires c κs = search needs
-
-same-length : tie.Need-same-length
-same-length c = search needs
-
 returns : tie.Need-returns
 unfolding amountField
 returns c =
@@ -31,4 +22,4 @@ returns c =
     (c .before .before .put-signed .ensures ∙ ap (λ (z : ℤ). written o1 (signed z)) (toZ-ofZ (c .before .before .before .before .before .before .before .before .before .fits .z))))
 
 pub put-amount-spec : {M : Type 1} → statement M
-put-amount-spec = tie.close (tie.spec put-byte-requires put-signed-requires same-length returns)
+put-amount-spec = tie.close (tie.spec (λ c κs. search needs) (λ c κs. search needs) (λ c. search needs) returns)

@@ -16,45 +16,12 @@ use borrow.Author.Needs.{needs}
 use Rattle.entries.proofs.put_commitment.Statement.{statement}
 use Rattle.entries.proofs.put_commitment.Tie as tie
 
-commitment-at-requires : tie.Need-commitment-at-requires
-commitment-at-requires c κs = search needs
-
-equals-requires : tie.Need-equals-requires
-equals-requires c κs = search needs
-
 returns : tie.Need-returns
 unfolding commitmentLine
 returns c =
     let a = c .before .before .before .before .args in
     let h : eqb (commitmentAt (a .book) (a .h) (a .k) .0) 0 ≡ true = ap (λ (x : HubKwh). eqb (x .0) 0) (sym (c .before .before .commitment-at .ensures)) ∙ (sym (c .before .equals .ensures) ∙ c .if1 .taken) in
     simp h (sym (written-none _))
-
-slice-aggregate-put-bytes : tie.Need-slice-aggregate-put-bytes
-slice-aggregate-put-bytes c = search needs
-
-put-bytes-requires : tie.Need-put-bytes-requires
-put-bytes-requires c κs = search needs
-
-add-put-field : tie.Need-add-put-field
-add-put-field c = search needs
-
-put-field-requires : tie.Need-put-field-requires
-put-field-requires c κs = search needs
-
-add-put-field-2 : tie.Need-add-put-field-2
-add-put-field-2 c = search needs
-
-put-field-requires-2 : tie.Need-put-field-requires-2
-put-field-requires-2 c κs = search needs
-
-put-field-requires-3 : tie.Need-put-field-requires-3
-put-field-requires-3 c κs = search needs
-
-put-byte-requires : tie.Need-put-byte-requires
-put-byte-requires c κs = search needs
-
-same-length : tie.Need-same-length
-same-length c = search needs
 
 returns-2 : tie.Need-returns-2
 unfolding commitmentLine
@@ -77,16 +44,8 @@ pub put-commitment-spec : {M : Type 1} → statement M
 put-commitment-spec =
     tie.close
     (tie.spec
-    commitment-at-requires
-    equals-requires
+    (λ c κs. search needs) (λ c κs. search needs)
     returns
-    slice-aggregate-put-bytes
-    put-bytes-requires
-    add-put-field
-    put-field-requires
-    add-put-field-2
-    put-field-requires-2
-    put-field-requires-3
-    put-byte-requires
-    same-length
+    (λ c. search needs) (λ c κs. search needs) (λ c. search needs) (λ c κs. search needs) (λ c. search needs)
+    (λ c κs. search needs) (λ c κs. search needs) (λ c κs. search needs) (λ c. search needs)
     returns-2)

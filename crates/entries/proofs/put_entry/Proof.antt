@@ -9,21 +9,6 @@ use borrow.Author.Needs.{needs}
 use Rattle.entries.proofs.put_entry.Statement.{statement}
 use Rattle.entries.proofs.put_entry.Tie as tie
 
-put-line-requires : tie.Need-put-line-requires
-put-line-requires c κs = search needs
-
-put-byte-requires : tie.Need-put-byte-requires
-put-byte-requires c κs = search needs
-
-put-result-requires : tie.Need-put-result-requires
-put-result-requires c κs = search needs
-
-put-byte-requires-2 : tie.Need-put-byte-requires-2
-put-byte-requires-2 c κs = search needs
-
-same-length : tie.Need-same-length
-same-length c = search needs
-
 returns : tie.Need-returns
 unfolding entryLine
 returns c =
@@ -41,9 +26,5 @@ pub put-entry-spec : {M : Type 1} → statement M
 put-entry-spec =
     tie.close
     (tie.spec
-    put-line-requires
-    put-byte-requires
-    put-result-requires
-    put-byte-requires-2
-    same-length
+    (λ c κs. search needs) (λ c κs. search needs) (λ c κs. search needs) (λ c κs. search needs) (λ c. search needs)
     returns)

@@ -25,9 +25,6 @@ abbrev μ-loop : tie.MeasureT-loop
 loop-holds : tie.Need-loop-holds Inv-loop μ-loop
 loop-holds c = (omega arith, none-joined _ _)
 
-put-commitment-requires : tie.Need-put-commitment-requires Inv-loop μ-loop
-put-commitment-requires c κs = search needs
-
 add-k : tie.Need-add-k Inv-loop μ-loop
 add-k c = omega (arith, c .before .before .before .before .loop-test .taken)
 
@@ -61,7 +58,7 @@ put-hour-commitments-spec =
     Inv-loop
     μ-loop
     loop-holds
-    put-commitment-requires
+    (λ c κs. search needs)
     add-k
     loop-less
     loop-again

@@ -15,25 +15,10 @@ use borrow.Author.Needs.{needs}
 use Rattle.entries.proofs.put_line.Statement.{statement}
 use Rattle.entries.proofs.put_line.Tie as tie
 
-find-requires : tie.Need-find-requires
-find-requires c κs = search needs
-
-sub-put-bytes : tie.Need-sub-put-bytes
-sub-put-bytes c = search needs
-
-part-put-bytes-start : tie.Need-part-put-bytes-start
-part-put-bytes-start c = search needs
-
 part-put-bytes-end : tie.Need-part-put-bytes-end
 part-put-bytes-end c =
     let g = c .before .before .before .before .before .args in
     omega (arith, c .before .find .ensures, seek-le 10 10 (drop (g .from) (g .text .now)), length-drop (g .from) (g .text .now))
-
-put-bytes-requires : tie.Need-put-bytes-requires
-put-bytes-requires c κs = search needs
-
-same-length : tie.Need-same-length
-same-length c = search needs
 
 returns : tie.Need-returns
 unfolding lineText
@@ -55,11 +40,8 @@ pub put-line-spec : {M : Type 1} → statement M
 put-line-spec =
     tie.close
     (tie.spec
-    find-requires
-    sub-put-bytes
-    part-put-bytes-start
+    (λ c κs. search needs) (λ c. search needs) (λ c. search needs)
     part-put-bytes-end
-    put-bytes-requires
-    same-length
+    (λ c κs. search needs) (λ c. search needs)
     returns
     returns-2)

@@ -15,21 +15,6 @@ use borrow.Author.Needs.{needs}
 use Rattle.entries.proofs.put_refusal.Statement.{statement}
 use Rattle.entries.proofs.put_refusal.Tie as tie
 
-refusal-number-requires : tie.Need-refusal-number-requires
-refusal-number-requires c κs = search needs
-
-slice-aggregate-put-bytes : tie.Need-slice-aggregate-put-bytes
-slice-aggregate-put-bytes c = search needs
-
-put-bytes-requires : tie.Need-put-bytes-requires
-put-bytes-requires c κs = search needs
-
-put-number-requires : tie.Need-put-number-requires
-put-number-requires c κs = search needs
-
-same-length : tie.Need-same-length
-same-length c = search needs
-
 returns : tie.Need-returns
 unfolding refusalText
 returns c =
@@ -42,21 +27,6 @@ returns c =
     (then o o1 (bytes "refused=") (digits (refusalNumber (g .refusal))) (c .before .before .before .before .before .before .before .put-bytes .ensures)
     (c .before .before .before .put-number .ensures ∙ ap (λ (n : ℕ). written o1 (digits n)) (c .before .before .before .before .before .before .before .before .before .before .refusal-number .ensures)))
     (sym (written-none o2)))
-
-slice-aggregate-put-bytes-2 : tie.Need-slice-aggregate-put-bytes-2
-slice-aggregate-put-bytes-2 c = search needs
-
-put-bytes-requires-2 : tie.Need-put-bytes-requires-2
-put-bytes-requires-2 c κs = search needs
-
-refusal-line-requires : tie.Need-refusal-line-requires
-refusal-line-requires c κs = search needs
-
-put-number-requires-2 : tie.Need-put-number-requires-2
-put-number-requires-2 c κs = search needs
-
-same-length-2 : tie.Need-same-length-2
-same-length-2 c = search needs
 
 returns-2 : tie.Need-returns-2
 unfolding refusalText
@@ -76,15 +46,7 @@ pub put-refusal-spec : {M : Type 1} → statement M
 put-refusal-spec =
     tie.close
     (tie.spec
-    refusal-number-requires
-    slice-aggregate-put-bytes
-    put-bytes-requires
-    put-number-requires
-    same-length
+    (λ c κs. search needs) (λ c. search needs) (λ c κs. search needs) (λ c κs. search needs) (λ c. search needs)
     returns
-    slice-aggregate-put-bytes-2
-    put-bytes-requires-2
-    refusal-line-requires
-    put-number-requires-2
-    same-length-2
+    (λ c. search needs) (λ c κs. search needs) (λ c κs. search needs) (λ c κs. search needs) (λ c. search needs)
     returns-2)

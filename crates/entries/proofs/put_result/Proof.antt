@@ -6,21 +6,9 @@ use borrow.Author.Needs.{needs}
 use Rattle.entries.proofs.put_result.Statement.{statement}
 use Rattle.entries.proofs.put_result.Tie as tie
 
-put-total-requires : tie.Need-put-total-requires
-put-total-requires c κs = search needs
-
-same-length : tie.Need-same-length
-same-length c = search needs
-
 returns : tie.Need-returns
 unfolding resultText
 returns c = simp (eq-eqb _ _ (c .before .before .before .before .if1 .taken)) (c .before .before .put-total .ensures)
-
-put-answer-requires : tie.Need-put-answer-requires
-put-answer-requires c κs = search needs
-
-same-length-2 : tie.Need-same-length-2
-same-length-2 c = search needs
 
 returns-2 : tie.Need-returns-2
 unfolding resultText
@@ -29,4 +17,8 @@ returns-2 c = simp (ne-eqb _ _ (c .before .before .before .before .if1 .left)) (
 pub put-result-spec : {M : Type 1} → statement M
 put-result-spec =
     tie.close
-    (tie.spec put-total-requires same-length returns put-answer-requires same-length-2 returns-2)
+    (tie.spec
+    (λ c κs. search needs) (λ c. search needs)
+    returns
+    (λ c κs. search needs) (λ c. search needs)
+    returns-2)

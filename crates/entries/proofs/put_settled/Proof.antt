@@ -15,33 +15,6 @@ use borrow.Author.Needs.{needs}
 use Rattle.entries.proofs.put_settled.Statement.{statement}
 use Rattle.entries.proofs.put_settled.Tie as tie
 
-member-at-requires : tie.Need-member-at-requires
-member-at-requires c κs = search needs
-
-energy-at-requires : tie.Need-energy-at-requires
-energy-at-requires c κs = search needs
-
-amounts-at-requires : tie.Need-amounts-at-requires
-amounts-at-requires c κs = search needs
-
-slice-aggregate-put-bytes : tie.Need-slice-aggregate-put-bytes
-slice-aggregate-put-bytes c = search needs
-
-put-bytes-requires : tie.Need-put-bytes-requires
-put-bytes-requires c κs = search needs
-
-add-put-unit-line : tie.Need-add-put-unit-line
-add-put-unit-line c = search needs
-
-add-put-unit-line-2 : tie.Need-add-put-unit-line-2
-add-put-unit-line-2 c = search needs
-
-put-unit-line-requires : tie.Need-put-unit-line-requires
-put-unit-line-requires c κs = search needs
-
-same-length : tie.Need-same-length
-same-length c = search needs
-
 returns : tie.Need-returns
 unfolding settledLine
 returns c =
@@ -60,14 +33,7 @@ pub put-settled-spec : {M : Type 1} → statement M
 put-settled-spec =
     tie.close
     (tie.spec
-    member-at-requires
-    energy-at-requires
-    amounts-at-requires
-    slice-aggregate-put-bytes
-    put-bytes-requires
-    add-put-unit-line
-    add-put-unit-line-2
-    put-unit-line-requires
-    same-length
+    (λ c κs. search needs) (λ c κs. search needs) (λ c κs. search needs) (λ c. search needs) (λ c κs. search needs)
+    (λ c. search needs) (λ c. search needs) (λ c κs. search needs) (λ c. search needs)
     returns
     returns-2)

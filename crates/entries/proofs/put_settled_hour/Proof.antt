@@ -8,15 +8,6 @@ use borrow.Author.Needs.{needs}
 use Rattle.entries.proofs.put_settled_hour.Statement.{statement}
 use Rattle.entries.proofs.put_settled_hour.Tie as tie
 
-mark-at-requires : tie.Need-mark-at-requires
-mark-at-requires c κs = search needs
-
-put-settled-units-requires : tie.Need-put-settled-units-requires
-put-settled-units-requires c κs = search needs
-
-same-length : tie.Need-same-length
-same-length c = search needs
-
 returns : tie.Need-returns
 unfolding settledHour
 returns c = simp (eq-eqb _ _ (sym (c .before .before .before .before .before .mark-at .ensures) ∙ c .before .before .before .before .if1 .taken)) (c .before .before .put-settled-units .ensures)
@@ -27,4 +18,8 @@ returns-2 c = simp (ne-eqb _ _ (λ z. c .if1 .left (c .before .mark-at .ensures 
 
 pub put-settled-hour-spec : {M : Type 1} → statement M
 put-settled-hour-spec =
-    tie.close (tie.spec mark-at-requires put-settled-units-requires same-length returns returns-2)
+    tie.close
+    (tie.spec
+    (λ c κs. search needs) (λ c κs. search needs) (λ c. search needs)
+    returns
+    returns-2)

@@ -25,9 +25,6 @@ abbrev μ-loop : tie.MeasureT-loop
 loop-holds : tie.Need-loop-holds Inv-loop μ-loop
 loop-holds c = (omega arith, none-joined _ _)
 
-put-settled-requires : tie.Need-put-settled-requires Inv-loop μ-loop
-put-settled-requires c κs = search needs
-
 add-k : tie.Need-add-k Inv-loop μ-loop
 add-k c = omega (arith, c .before .before .before .before .loop-test .taken)
 
@@ -61,7 +58,7 @@ put-settled-units-spec =
     Inv-loop
     μ-loop
     loop-holds
-    put-settled-requires
+    (λ c κs. search needs)
     add-k
     loop-less
     loop-again

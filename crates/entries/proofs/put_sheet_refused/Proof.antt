@@ -11,21 +11,6 @@ use borrow.Author.Needs.{needs}
 use Rattle.entries.proofs.put_sheet_refused.Statement.{statement}
 use Rattle.entries.proofs.put_sheet_refused.Tie as tie
 
-slice-aggregate-put-bytes : tie.Need-slice-aggregate-put-bytes
-slice-aggregate-put-bytes c = search needs
-
-put-bytes-requires : tie.Need-put-bytes-requires
-put-bytes-requires c κs = search needs
-
-put-refusal-requires : tie.Need-put-refusal-requires
-put-refusal-requires c κs = search needs
-
-put-byte-requires : tie.Need-put-byte-requires
-put-byte-requires c κs = search needs
-
-same-length : tie.Need-same-length
-same-length c = search needs
-
 returns : tie.Need-returns
 unfolding sheetRefused
 returns c =
@@ -41,9 +26,5 @@ pub put-sheet-refused-spec : {M : Type 1} → statement M
 put-sheet-refused-spec =
     tie.close
     (tie.spec
-    slice-aggregate-put-bytes
-    put-bytes-requires
-    put-refusal-requires
-    put-byte-requires
-    same-length
+    (λ c. search needs) (λ c κs. search needs) (λ c κs. search needs) (λ c κs. search needs) (λ c. search needs)
     returns)

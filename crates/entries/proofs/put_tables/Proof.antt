@@ -7,15 +7,6 @@ use borrow.Author.Needs.{needs}
 use Rattle.entries.proofs.put_tables.Statement.{statement}
 use Rattle.entries.proofs.put_tables.Tie as tie
 
-put-commitments-requires : tie.Need-put-commitments-requires
-put-commitments-requires c κs = search needs
-
-put-settled-hours-requires : tie.Need-put-settled-hours-requires
-put-settled-hours-requires c κs = search needs
-
-same-length : tie.Need-same-length
-same-length c = search needs
-
 returns : tie.Need-returns
 unfolding tables
 returns c =
@@ -26,5 +17,4 @@ returns c =
     (c .before .before .put-settled-hours .ensures))
 
 pub put-tables-spec : {M : Type 1} → statement M
-put-tables-spec =
-    tie.close (tie.spec put-commitments-requires put-settled-hours-requires same-length returns)
+put-tables-spec = tie.close (tie.spec (λ c κs. search needs) (λ c κs. search needs) (λ c. search needs) returns)

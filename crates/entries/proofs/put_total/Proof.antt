@@ -13,27 +13,6 @@ use borrow.Author.Needs.{needs}
 use Rattle.entries.proofs.put_total.Statement.{statement}
 use Rattle.entries.proofs.put_total.Tie as tie
 
-enum-told : tie.Need-enum-told
-enum-told c = search needs
-
-slice-aggregate-put-bytes : tie.Need-slice-aggregate-put-bytes
-slice-aggregate-put-bytes c = search needs
-
-put-bytes-requires : tie.Need-put-bytes-requires
-put-bytes-requires c κs = search needs
-
-put-signed-requires : tie.Need-put-signed-requires
-put-signed-requires c κs = search needs
-
-enum-known-verdict : tie.Need-enum-known-verdict
-enum-known-verdict c = search needs
-
-put-refusal-requires : tie.Need-put-refusal-requires
-put-refusal-requires c κs = search needs
-
-same-length : tie.Need-same-length
-same-length c = search needs
-
 returns : tie.Need-returns
 unfolding totalText
 returns c =
@@ -42,9 +21,6 @@ returns c =
     let o1 = output (c .before .before .before .before .before .before .before .put-bytes .last .0) (c .before .before .before .before .before .before .before .put-bytes .result) in
     (then o o1 (bytes "sum=") (signed (g .t .sum)) (c .before .before .before .before .before .before .before .put-bytes .ensures)
     (c .before .before .put-signed .ensures ∙ ap (λ (z : ℤ). written o1 (signed z)) (toZ-ofZ (record { sfits = c .before .before .before .struct-told .given .1 .0 .1 })))) ∙ ap (λ (v : Verdict). written o (totalText v (g .t .sum))) (sym (c .before .before .before .before .before .before .before .before .before .before .enum-told .given .1))
-
-same-length-2 : tie.Need-same-length-2
-same-length-2 c = search needs
 
 returns-2 : tie.Need-returns-2
 unfolding totalText
@@ -57,13 +33,8 @@ pub put-total-spec : {M : Type 1} → statement M
 put-total-spec =
     tie.close
     (tie.spec
-    enum-told
-    slice-aggregate-put-bytes
-    put-bytes-requires
-    put-signed-requires
-    enum-known-verdict
-    put-refusal-requires
-    same-length
+    (λ c. search needs) (λ c. search needs) (λ c κs. search needs) (λ c κs. search needs) (λ c. search needs)
+    (λ c κs. search needs) (λ c. search needs)
     returns
-    same-length-2
+    (λ c. search needs)
     returns-2)

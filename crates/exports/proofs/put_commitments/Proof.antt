@@ -20,21 +20,6 @@ abbrev μ-loop : tie.MeasureT-loop
 loop-holds : tie.Need-loop-holds Inv-loop μ-loop
 loop-holds c = (omega arith, sym (put-none _ _ _))
 
-mul-kwh : tie.Need-mul-kwh Inv-loop μ-loop
-mul-kwh c = search needs
-
-element-copy-out-kwh : tie.Need-element-copy-out-kwh Inv-loop μ-loop
-element-copy-out-kwh c = search needs
-
-put-number-requires : tie.Need-put-number-requires Inv-loop μ-loop
-put-number-requires c κs = search needs
-
-add-k : tie.Need-add-k Inv-loop μ-loop
-add-k c = search needs
-
-loop-less : tie.Need-loop-less Inv-loop μ-loop
-loop-less c = search needs
-
 loop-again : tie.Need-loop-again Inv-loop μ-loop
 loop-again c =
     let l = c .before .before .before .before .before .before .loop in
@@ -58,11 +43,7 @@ put-commitments-spec =
     Inv-loop
     μ-loop
     loop-holds
-    mul-kwh
-    element-copy-out-kwh
-    put-number-requires
-    add-k
-    loop-less
+    (λ c. search needs) (λ c. search needs) (λ c κs. search needs) (λ c. search needs) (λ c. search needs)
     loop-again
     same-length
     returns)

@@ -8,15 +8,6 @@ use borrow.Author.Needs.{needs}
 use Rattle.exports.proofs.put_held.Statement.{statement}
 use Rattle.exports.proofs.put_held.Tie as tie
 
-put-commitments-requires : tie.Need-put-commitments-requires
-put-commitments-requires c κs = search needs
-
-put-marks-requires : tie.Need-put-marks-requires
-put-marks-requires c κs = search needs
-
-put-energies-requires : tie.Need-put-energies-requires
-put-energies-requires c κs = search needs
-
 same-length : tie.Need-same-length
 same-length c =
     ap length (c .before .before .put-energies .ensures) ∙ (put-length _ _ _ _ ∙ (ap length (c .before .before .before .before .before .before .put-marks .ensures) ∙ (put-length _ _ _ _ ∙ (ap length (c .before .before .before .before .before .before .before .before .before .before .put-commitments .ensures) ∙ put-length _ _ _ _))))
@@ -30,8 +21,6 @@ pub put-held-spec : {M : Type 1} → statement M
 put-held-spec =
     tie.close
     (tie.spec
-    put-commitments-requires
-    put-marks-requires
-    put-energies-requires
+    (λ c κs. search needs) (λ c κs. search needs) (λ c κs. search needs)
     same-length
     returns)

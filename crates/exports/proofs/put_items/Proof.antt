@@ -21,27 +21,6 @@ abbrev μ-loop : tie.MeasureT-loop
 loop-holds : tie.Need-loop-holds Inv-loop μ-loop
 loop-holds c = (omega arith, sym (put-none _ _ _))
 
-mul-put-amount : tie.Need-mul-put-amount Inv-loop μ-loop
-mul-put-amount c = search needs
-
-add-put-amount : tie.Need-add-put-amount Inv-loop μ-loop
-add-put-amount c = search needs
-
-mul-put-amount-2 : tie.Need-mul-put-amount-2 Inv-loop μ-loop
-mul-put-amount-2 c = search needs
-
-element-copy-out-put-amount : tie.Need-element-copy-out-put-amount Inv-loop μ-loop
-element-copy-out-put-amount c = search needs
-
-put-amount-requires : tie.Need-put-amount-requires Inv-loop μ-loop
-put-amount-requires c κs = search needs
-
-add-i : tie.Need-add-i Inv-loop μ-loop
-add-i c = search needs
-
-loop-less : tie.Need-loop-less Inv-loop μ-loop
-loop-less c = search needs
-
 loop-again : tie.Need-loop-again Inv-loop μ-loop
 loop-again c =
     let l = c .before .before .before .before .before .loop in
@@ -64,13 +43,8 @@ put-items-spec =
     Inv-loop
     μ-loop
     loop-holds
-    mul-put-amount
-    add-put-amount
-    mul-put-amount-2
-    element-copy-out-put-amount
-    put-amount-requires
-    add-i
-    loop-less
+    (λ c. search needs) (λ c. search needs) (λ c. search needs) (λ c. search needs) (λ c κs. search needs)
+    (λ c. search needs) (λ c. search needs)
     loop-again
     same-length
     returns)

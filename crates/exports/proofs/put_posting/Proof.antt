@@ -9,47 +9,11 @@ use borrow.Author.Needs.{needs}
 use Rattle.exports.proofs.put_posting.Statement.{statement}
 use Rattle.exports.proofs.put_posting.Tie as tie
 
-mul-at : tie.Need-mul-at
-mul-at c = search needs
-
-signed-requires : tie.Need-signed-requires
-signed-requires c κs = search needs
-
-mul-out : tie.Need-mul-out
-mul-out c = search needs
-
-slice-set-from-out : tie.Need-slice-set-from-out
-slice-set-from-out c = search needs
-
-signed-requires-2 : tie.Need-signed-requires-2
-signed-requires-2 c κs = search needs
-
-add-out : tie.Need-add-out
-add-out c = search needs
-
-mul-out-2 : tie.Need-mul-out-2
-mul-out-2 c = search needs
-
 slice-set-from-out-2 : tie.Need-slice-set-from-out-2
 slice-set-from-out-2 c = simp length-set (omega (arith, c .before .before .if1 .taken))
 
-signed-requires-3 : tie.Need-signed-requires-3
-signed-requires-3 c κs = search needs
-
-add-t12 : tie.Need-add-t12
-add-t12 c = search needs
-
-mul-t10 : tie.Need-mul-t10
-mul-t10 c = search needs
-
 slice-set-from-out-3 : tie.Need-slice-set-from-out-3
 slice-set-from-out-3 c = simp length-set (omega (arith, c .before .before .before .if1 .taken))
-
-add-amount : tie.Need-add-amount
-add-amount c = search needs
-
-mul-amount : tie.Need-mul-amount
-mul-amount c = search needs
 
 slice-set-from-amount : tie.Need-slice-set-from-amount
 slice-set-from-amount c = simp length-set (omega (arith, c .before .before .before .before .if1 .taken))
@@ -69,20 +33,12 @@ pub put-posting-spec : {M : Type 1} → statement M
 put-posting-spec =
     tie.close
     (tie.spec
-    mul-at
-    signed-requires
-    mul-out
-    slice-set-from-out
-    signed-requires-2
-    add-out
-    mul-out-2
+    (λ c. search needs) (λ c κs. search needs) (λ c. search needs) (λ c. search needs) (λ c κs. search needs)
+    (λ c. search needs) (λ c. search needs)
     slice-set-from-out-2
-    signed-requires-3
-    add-t12
-    mul-t10
+    (λ c κs. search needs) (λ c. search needs) (λ c. search needs)
     slice-set-from-out-3
-    add-amount
-    mul-amount
+    (λ c. search needs) (λ c. search needs)
     slice-set-from-amount
     same-length
     returns

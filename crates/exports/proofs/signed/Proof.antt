@@ -8,9 +8,6 @@ use borrow.Author.Needs.{needs}
 use Rattle.exports.proofs.signed.Statement.{statement}
 use Rattle.exports.proofs.signed.Tie as tie
 
-cast-result : tie.Need-cast-result
-cast-result c = search needs
-
 returns : tie.Need-returns
 returns c = toZ-pos w64 (c .if1 .taken) ∙ sym (simp (lt-ltb (c .before .args .x) 9223372036854775808 (c .if1 .taken)))
 
@@ -18,4 +15,4 @@ returns-2 : tie.Need-returns-2
 returns-2 c = sym (simp (le-ltb (c .before .args .x) 9223372036854775808 (c .if1 .left)))
 
 pub signed-spec : {M : Type 1} → statement M
-signed-spec = tie.close (tie.spec cast-result returns returns-2)
+signed-spec = tie.close (tie.spec (λ c. search needs) returns returns-2)

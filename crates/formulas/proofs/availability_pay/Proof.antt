@@ -8,15 +8,9 @@ use borrow.Author.Needs.{needs}
 use Rattle.formulas.proofs.availability_pay.Statement.{statement}
 use Rattle.formulas.proofs.availability_pay.Tie as tie
 
-above-requires : tie.Need-above-requires
-above-requires c κs = search needs
-
-pay-of-requires : tie.Need-pay-of-requires
-pay-of-requires c κs = search needs
-
 returns : tie.Need-returns
 unfolding availability
 returns c = c .pay-of .ensures ∙ ap (λ (n : ℕ). payOf (record { 0 = n }) (c .before .before .args .cpf) (c .before .before .args .bar)) (c .before .above .ensures)
 
 pub availability-pay-spec : {M : Type 1} → statement M
-availability-pay-spec = tie.close (tie.spec above-requires pay-of-requires returns)
+availability-pay-spec = tie.close (tie.spec (λ c κs. search needs) (λ c κs. search needs) returns)

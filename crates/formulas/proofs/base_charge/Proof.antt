@@ -7,9 +7,6 @@ use borrow.Author.Needs.{needs}
 use Rattle.formulas.proofs.base_charge.Statement.{statement}
 use Rattle.formulas.proofs.base_charge.Tie as tie
 
-mul-tenths : tie.Need-mul-tenths
-mul-tenths c = search needs
-
 mul-rated : tie.Need-mul-rated
 mul-rated c = omega (arith, rated-most (c .args .w) (c .args .cpf) (c .args .bar) (c .pre))
 
@@ -21,4 +18,4 @@ unfolding baseCharge
 returns c = search needs
 
 pub base-charge-spec : {M : Type 1} → statement M
-base-charge-spec = tie.close (tie.spec mul-tenths mul-rated mul-product returns)
+base-charge-spec = tie.close (tie.spec (λ c. search needs) mul-rated mul-product returns)

@@ -16,12 +16,6 @@ factors : (c : tie.After-growth) →
 factors c =
     λ i. c .before .before .base-charge .ensures i * (c .growth .ensures ∙ ap growth (c .before .hours-counted .ensures)) i
 
-base-charge-requires : tie.Need-base-charge-requires
-base-charge-requires c κs = search needs
-
-hours-counted-requires : tie.Need-hours-counted-requires
-hours-counted-requires c κs = search needs
-
 growth-requires : tie.Need-growth-requires
 growth-requires c κs = omega (arith, c .hours-counted .ensures, hours-most (c .before .before .args .since))
 
@@ -38,6 +32,4 @@ returns c =
     (e, subst (NearExact (a .w) (a .cpf) (a .bar) (hoursCounted (a .since))) (sym e) (charge-near (c .before .before .before .args .w) (c .before .before .before .args .cpf) (c .before .before .before .args .bar) (c .before .before .before .pre) (a .since)))
 
 pub charge-of-spec : {M : Type 1} → statement M
-charge-of-spec =
-    tie.close
-    (tie.spec base-charge-requires hours-counted-requires growth-requires mul-result returns)
+charge-of-spec = tie.close (tie.spec (λ c κs. search needs) (λ c κs. search needs) growth-requires mul-result returns)

@@ -16,18 +16,9 @@ whole : (t : Bool) (repair kwh : ℕ) → repair ≡ 0 → kwh ≡ cond t ((1 - 
 whole true repair kwh e = let z : 1 - repair ≡ 1 = omega arith in rw (z, one-mul)
 whole false repair kwh e = refl
 
-mul-result : tie.Need-mul-result
-mul-result c = search needs
-
-element-copy-out-result : tie.Need-element-copy-out-result
-element-copy-out-result c = search needs
-
 returns : tie.Need-returns
 unfolding countedAt
 returns c = let a = c .before .before .args in whole (kindWeight (a .j) .exempt) (a .repair) _ (c .before .if1 .taken)
-
-kind-weight-requires : tie.Need-kind-weight-requires
-kind-weight-requires c κs = search needs
 
 returns-2 : tie.Need-returns-2
 unfolding countedAt
@@ -36,16 +27,17 @@ returns-2 c =
     let z : 1 - a .repair ≡ 0 = omega arith in
     rw (sym (ap (λ (k : KindWeight). k .exempt) (c .before .kind-weight .ensures)) ∙ c .if2 .taken, z, zero-mul)
 
-mul-result-2 : tie.Need-mul-result-2
-mul-result-2 c = search needs
-
-element-copy-out-result-2 : tie.Need-element-copy-out-result-2
-element-copy-out-result-2 c = search needs
-
 returns-3 : tie.Need-returns-3
 unfolding countedAt
 returns-3 c = rw (sym (ap (λ (k : KindWeight). k .exempt) (c .before .before .kind-weight .ensures)) ∙ c .before .if2 .left)
 
 pub counted-at-spec : {M : Type 1} → statement M
 counted-at-spec =
-    tie.close (tie.spec mul-result element-copy-out-result returns kind-weight-requires returns-2 mul-result-2 element-copy-out-result-2 returns-3)
+    tie.close
+    (tie.spec
+    (λ c. search needs) (λ c. search needs)
+    returns
+    (λ c κs. search needs)
+    returns-2
+    (λ c. search needs) (λ c. search needs)
+    returns-3)

@@ -21,20 +21,11 @@ loop-holds : tie.Need-loop-holds Inv-loop μ-loop
 unfolding sum
 loop-holds c = (omega arith, refl)
 
-counted-part-requires : tie.Need-counted-part-requires Inv-loop μ-loop
-counted-part-requires c κs = search needs
-
 plus-requires : tie.Need-plus-requires Inv-loop μ-loop
 plus-requires c κs =
     let start = c .before .before .before in
     let l = c .before .before .loop in
     omega (arith, counted-fits (start .args .d) (start .args .repair) (start .pre) (l .j) (omega arith))
-
-add-j : tie.Need-add-j Inv-loop μ-loop
-add-j c = search needs
-
-loop-less : tie.Need-loop-less Inv-loop μ-loop
-loop-less c = search needs
 
 loop-again : tie.Need-loop-again Inv-loop μ-loop
 loop-again c =
@@ -58,9 +49,8 @@ counted-deviation-spec =
     Inv-loop
     μ-loop
     loop-holds
-    counted-part-requires
+    (λ c κs. search needs)
     plus-requires
-    add-j
-    loop-less
+    (λ c. search needs) (λ c. search needs)
     loop-again
     returns)

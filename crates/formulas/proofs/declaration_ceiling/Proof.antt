@@ -8,30 +8,12 @@ use borrow.Author.Needs.{needs}
 use Rattle.formulas.proofs.declaration_ceiling.Statement.{statement}
 use Rattle.formulas.proofs.declaration_ceiling.Tie as tie
 
-percent-requires : tie.Need-percent-requires
-percent-requires c κs = search needs
-
-lesser-requires : tie.Need-lesser-requires
-lesser-requires c κs = search needs
-
-plus-requires : tie.Need-plus-requires
-plus-requires c κs = search needs
-
 returns : tie.Need-returns
 unfolding declarationCeiling
 returns c =
     let p = c .before .before .before .before .args .power .0 in
     let e : c .plus .result .0 ≡ p + min (p * 6 / 100) 6000 = omega arith in
     rw (c .before .before .before .if1 .taken) (λ i. record { 0 = e i })
-
-percent-requires-2 : tie.Need-percent-requires-2
-percent-requires-2 c κs = search needs
-
-lesser-requires-2 : tie.Need-lesser-requires-2
-lesser-requires-2 c κs = search needs
-
-plus-requires-2 : tie.Need-plus-requires-2
-plus-requires-2 c κs = search needs
 
 returns-2 : tie.Need-returns-2
 unfolding declarationCeiling
@@ -44,11 +26,7 @@ pub declaration-ceiling-spec : {M : Type 1} → statement M
 declaration-ceiling-spec =
     tie.close
     (tie.spec
-    percent-requires
-    lesser-requires
-    plus-requires
+    (λ c κs. search needs) (λ c κs. search needs) (λ c κs. search needs)
     returns
-    percent-requires-2
-    lesser-requires-2
-    plus-requires-2
+    (λ c κs. search needs) (λ c κs. search needs) (λ c κs. search needs)
     returns-2)

@@ -11,12 +11,6 @@ use borrow.Author.Needs.{needs}
 use Rattle.formulas.proofs.drawn_pay.Statement.{statement}
 use Rattle.formulas.proofs.drawn_pay.Tie as tie
 
-above-requires : tie.Need-above-requires
-above-requires c κs = search needs
-
-hub-of-requires : tie.Need-hub-of-requires
-hub-of-requires c κs = search needs
-
 -- the grains that were drawn
 drawn : (c : tie.After-hub-of) →
     let a = c .before .before .args in
@@ -33,9 +27,6 @@ cost-requires c κs =
     let g : c .hub-of .result .0 ≤ 100000000000 = omega (arith, drawn c, mul-le-mul d k) in
     omega (arith, mul-le-mul g p)
 
-energy-pay-requires : tie.Need-energy-pay-requires
-energy-pay-requires c κs = search needs
-
 returns : tie.Need-returns
 unfolding energyPay drawnPay
 returns c =
@@ -46,4 +37,9 @@ returns c =
 
 pub drawn-pay-spec : {M : Type 1} → statement M
 drawn-pay-spec =
-    tie.close (tie.spec above-requires hub-of-requires cost-requires energy-pay-requires returns)
+    tie.close
+    (tie.spec
+    (λ c κs. search needs) (λ c κs. search needs)
+    cost-requires
+    (λ c κs. search needs)
+    returns)

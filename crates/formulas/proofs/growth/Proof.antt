@@ -6,14 +6,8 @@ use borrow.Author.Needs.{needs}
 use Rattle.formulas.proofs.growth.Statement.{statement}
 use Rattle.formulas.proofs.growth.Tie as tie
 
-mul-result : tie.Need-mul-result
-mul-result c = search needs
-
-array-read-result : tie.Need-array-read-result
-array-read-result c = search needs
-
 returns : tie.Need-returns
 returns c = table-at (c .args .n) (omega arith)
 
 pub growth-spec : {M : Type 1} → statement M
-growth-spec = tie.close (tie.spec mul-result array-read-result returns)
+growth-spec = tie.close (tie.spec (λ c. search needs) (λ c. search needs) returns)

@@ -10,12 +10,9 @@ returns : tie.Need-returns
 unfolding hoursCounted
 returns c = omega arith
 
-least-requires : tie.Need-least-requires
-least-requires c κs = search needs
-
 returns-2 : tie.Need-returns-2
 unfolding hoursCounted
 returns-2 c = omega arith
 
 pub hours-counted-spec : {M : Type 1} → statement M
-hours-counted-spec = tie.close (tie.spec returns least-requires returns-2)
+hours-counted-spec = tie.close (tie.spec returns (λ c κs. search needs) returns-2)

@@ -13,9 +13,6 @@ use borrow.Author.Needs.{needs}
 use Rattle.formulas.proofs.is_charged.Statement.{statement}
 use Rattle.formulas.proofs.is_charged.Tie as tie
 
-exceeds-requires : tie.Need-exceeds-requires
-exceeds-requires c κs = search needs
-
 returns : tie.Need-returns
 unfolding isCharged
 returns c = rw (sym (c .before .exceeds .ensures) ∙ c .if1 .taken)
@@ -30,9 +27,6 @@ at-most c = ltb-false 2000 (c .before .before .args .q .0) (not-over c)
 times-requires : tie.Need-times-requires
 times-requires c κs = omega (arith, at-most c)
 
-exceeds-requires-2 : tie.Need-exceeds-requires-2
-exceeds-requires-2 c κs = search needs
-
 returns-2 : tie.Need-returns-2
 unfolding isCharged
 returns-2 c =
@@ -42,9 +36,6 @@ returns-2 c =
 
 hub-of-requires : tie.Need-hub-of-requires
 hub-of-requires c κs = (omega (arith, at-most (c .before .before)), omega arith)
-
-exceeds-requires-3 : tie.Need-exceeds-requires-3
-exceeds-requires-3 c κs = search needs
 
 returns-3 : tie.Need-returns-3
 unfolding isCharged hubOf
@@ -59,11 +50,11 @@ pub is-charged-spec : {M : Type 1} → statement M
 is-charged-spec =
     tie.close
     (tie.spec
-    exceeds-requires
+    (λ c κs. search needs)
     returns
     times-requires
-    exceeds-requires-2
+    (λ c κs. search needs)
     returns-2
     hub-of-requires
-    exceeds-requires-3
+    (λ c κs. search needs)
     returns-3)

@@ -5,15 +5,9 @@ use borrow.Author.Needs.{needs}
 use Rattle.formulas.proofs.kind_weight.Statement.{statement}
 use Rattle.formulas.proofs.kind_weight.Tie as tie
 
-mul-result : tie.Need-mul-result
-mul-result c = search needs
-
-array-copy-out-result : tie.Need-array-copy-out-result
-array-copy-out-result c = search needs
-
 returns : tie.Need-returns
 unfolding kindWeight kindWeights
 returns c = search needs
 
 pub kind-weight-spec : {M : Type 1} → statement M
-kind-weight-spec = tie.close (tie.spec mul-result array-copy-out-result returns)
+kind-weight-spec = tie.close (tie.spec (λ c. search needs) (λ c. search needs) returns)

@@ -9,9 +9,6 @@ use borrow.Author.Needs.{needs}
 use Rattle.formulas.proofs.owed.Statement.{statement}
 use Rattle.formulas.proofs.owed.Tie as tie
 
-cast-result : tie.Need-cast-result
-cast-result c = search needs
-
 sub-result : tie.Need-sub-result
 sub-result c =
     let z = pos (c .args .magnitude) in
@@ -21,4 +18,4 @@ returns : tie.Need-returns
 returns c = rw (toZ-ofZ (sub-result c), toZ-pos w64 (c .pre), +ℤ-idl (negℤ (pos (c .args .magnitude))))
 
 pub owed-spec : {M : Type 1} → statement M
-owed-spec = tie.close (tie.spec cast-result sub-result returns)
+owed-spec = tie.close (tie.spec (λ c. search needs) sub-result returns)

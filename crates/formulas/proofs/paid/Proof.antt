@@ -6,11 +6,8 @@ use borrow.Author.Needs.{needs}
 use Rattle.formulas.proofs.paid.Statement.{statement}
 use Rattle.formulas.proofs.paid.Tie as tie
 
-cast-result : tie.Need-cast-result
-cast-result c = search needs
-
 returns : tie.Need-returns
 returns c = toZ-pos w64 (c .pre)
 
 pub paid-spec : {M : Type 1} → statement M
-paid-spec = tie.close (tie.spec cast-result returns)
+paid-spec = tie.close (tie.spec (λ c. search needs) returns)

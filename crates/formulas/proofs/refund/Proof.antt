@@ -9,9 +9,6 @@ use borrow.Author.Needs.{needs}
 use Rattle.formulas.proofs.refund.Statement.{statement}
 use Rattle.formulas.proofs.refund.Tie as tie
 
-refund-kwh-requires : tie.Need-refund-kwh-requires
-refund-kwh-requires c κs = search needs
-
 pay-of-requires : tie.Need-pay-of-requires
 unfolding refundKwh
 pay-of-requires c κs = (omega (arith, ap (λ (k : NetKwh). k .0) (c .refund-kwh .ensures)), omega arith, omega arith)
@@ -21,4 +18,4 @@ unfolding refund
 returns c = c .pay-of .ensures ∙ ap (λ (k : NetKwh). payOf k (c .before .before .args .cpf) (c .before .before .args .bar)) (c .before .refund-kwh .ensures)
 
 pub refund-spec : {M : Type 1} → statement M
-refund-spec = tie.close (tie.spec refund-kwh-requires pay-of-requires returns)
+refund-spec = tie.close (tie.spec (λ c κs. search needs) pay-of-requires returns)

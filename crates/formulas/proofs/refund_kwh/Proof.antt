@@ -8,27 +8,6 @@ use borrow.Author.Needs.{needs}
 use Rattle.formulas.proofs.refund_kwh.Statement.{statement}
 use Rattle.formulas.proofs.refund_kwh.Tie as tie
 
-above-requires : tie.Need-above-requires
-above-requires c κs = search needs
-
-of-kind-requires : tie.Need-of-kind-requires
-of-kind-requires c κs = search needs
-
-above-requires-2 : tie.Need-above-requires-2
-above-requires-2 c κs = search needs
-
-of-kind-requires-2 : tie.Need-of-kind-requires-2
-of-kind-requires-2 c κs = search needs
-
-above-requires-3 : tie.Need-above-requires-3
-above-requires-3 c κs = search needs
-
-above-requires-4 : tie.Need-above-requires-4
-above-requires-4 c κs = search needs
-
-greater-requires : tie.Need-greater-requires
-greater-requires c κs = search needs
-
 -- what `real`, d5 and d7 leave of D
 short : (c : tie.After-above3) →
     let a = c .before .before .before .before .before .args in
@@ -45,11 +24,6 @@ pub refund-kwh-spec : {M : Type 1} → statement M
 refund-kwh-spec =
     tie.close
     (tie.spec
-    above-requires
-    of-kind-requires
-    above-requires-2
-    of-kind-requires-2
-    above-requires-3
-    above-requires-4
-    greater-requires
+    (λ c κs. search needs) (λ c κs. search needs) (λ c κs. search needs) (λ c κs. search needs) (λ c κs. search needs)
+    (λ c κs. search needs) (λ c κs. search needs)
     returns)

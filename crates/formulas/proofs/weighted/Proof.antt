@@ -27,12 +27,6 @@ part : (c : tie.After-kind-weight Inv-loop μ-loop) →
     c .before .counted-at .result .0 * c .kind-weight .result .tenths ≡ weightedPart (a .d) (a .repair) (c .before .before .before .loop .j)
 part c = λ i. c .before .counted-at .ensures i * (c .kind-weight .ensures i) .tenths
 
-counted-at-requires : tie.Need-counted-at-requires Inv-loop μ-loop
-counted-at-requires c κs = search needs
-
-kind-weight-requires : tie.Need-kind-weight-requires Inv-loop μ-loop
-kind-weight-requires c κs = search needs
-
 weight-requires : tie.Need-weight-requires Inv-loop μ-loop
 weight-requires c κs =
     let start = c .before .before .before .before in
@@ -43,12 +37,6 @@ add-w c =
     let start = c .before .before .before .before .before in
     let l = c .before .before .before .before .loop in
     omega (arith, part (c .before), weighted-fits (start .args .d) (start .args .repair) (start .pre) (l .j) (omega arith))
-
-add-j : tie.Need-add-j Inv-loop μ-loop
-add-j c = search needs
-
-loop-less : tie.Need-loop-less Inv-loop μ-loop
-loop-less c = search needs
 
 loop-again : tie.Need-loop-again Inv-loop μ-loop
 loop-again c =
@@ -71,11 +59,9 @@ weighted-spec =
     Inv-loop
     μ-loop
     loop-holds
-    counted-at-requires
-    kind-weight-requires
+    (λ c κs. search needs) (λ c κs. search needs)
     weight-requires
     add-w
-    add-j
-    loop-less
+    (λ c. search needs) (λ c. search needs)
     loop-again
     returns)

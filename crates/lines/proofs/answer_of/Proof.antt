@@ -10,18 +10,9 @@ use borrow.Author.Needs.{needs}
 use Rattle.lines.proofs.answer_of.Statement.{statement}
 use Rattle.lines.proofs.answer_of.Tie as tie
 
-add-t4 : tie.Need-add-t4
-add-t4 c = search needs
-
 returns : tie.Need-returns
 returns c =
     λ s r a l. simp (eq-eqb _ _ (sym r ∙ c .before .if1 .taken)) (ap (λ (n : ℕ). Read (c .before .before .before .args .start + n)) a)
-
-add-text-refusal : tie.Need-add-text-refusal
-add-text-refusal c = search needs
-
-text-refusal-requires : tie.Need-text-refusal-requires
-text-refusal-requires c κs = search needs
 
 returns-2 : tie.Need-returns-2
 returns-2 c =
@@ -29,5 +20,4 @@ returns-2 c =
     (ap (λ (x : TextRefusal). Refused x) (c .text-refusal .ensures ∙ (ap (λ (n : ℕ). textRefusal n (c .before .before .before .args .c .lines + 1)) r ∙ ap (λ (n : ℕ). textRefusal (s .refusal) (n + 1)) l)))
 
 pub answer-of-spec : {M : Type 1} → statement M
-answer-of-spec =
-    tie.close (tie.spec add-t4 returns add-text-refusal text-refusal-requires returns-2)
+answer-of-spec = tie.close (tie.spec (λ c. search needs) returns (λ c. search needs) (λ c κs. search needs) returns-2)

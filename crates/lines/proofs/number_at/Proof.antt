@@ -9,21 +9,6 @@ use borrow.Author.Needs.{needs}
 use Rattle.lines.proofs.number_at.Statement.{statement}
 use Rattle.lines.proofs.number_at.Tie as tie
 
-mul-at : tie.Need-mul-at
-mul-at c = search needs
-
-add-at : tie.Need-add-at
-add-at c = search needs
-
-add-at-2 : tie.Need-add-at-2
-add-at-2 c = search needs
-
-mul-result : tie.Need-mul-result
-mul-result c = search needs
-
-shared-slice-read-result : tie.Need-shared-slice-read-result
-shared-slice-read-result c = search needs
-
 returns : tie.Need-returns
 returns c =
     let g = c .before .before .args in
@@ -38,4 +23,7 @@ returns-2 c =
 pub number-at-spec : {M : Type 1} → statement M
 number-at-spec =
     tie.close
-    (tie.spec mul-at add-at add-at-2 mul-result shared-slice-read-result returns returns-2)
+    (tie.spec
+    (λ c. search needs) (λ c. search needs) (λ c. search needs) (λ c. search needs) (λ c. search needs)
+    returns
+    returns-2)

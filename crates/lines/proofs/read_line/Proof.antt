@@ -24,12 +24,6 @@ returns c =
       (omega arith, c .before .before .before .before .pre .1),
     )
 
-find-requires : tie.Need-find-requires
-find-requires c κs = search needs
-
-refused-requires : tie.Need-refused-requires
-refused-requires c κs = search needs
-
 returns-2 : tie.Need-returns-2
 returns-2 c =
     let g = c .before .before .before .before .before .before .before .args in
@@ -40,21 +34,6 @@ returns-2 c =
       (omega arith, λ z. omega arith),
     )
 
-sub-line : tie.Need-sub-line
-sub-line c = search needs
-
-part-line-start : tie.Need-part-line-start
-part-line-start c = search needs
-
-part-line-end : tie.Need-part-line-end
-part-line-end c = search needs
-
-key-is-requires : tie.Need-key-is-requires
-key-is-requires c κs = search needs
-
-refused-requires-2 : tie.Need-refused-requires-2
-refused-requires-2 c κs = search needs
-
 returns-3 : tie.Need-returns-3
 returns-3 c =
     let g = c .before .before .before .before .before .before .before .before .before .before .before .args in
@@ -64,9 +43,6 @@ returns-3 c =
       λ s shown. shown-bad (g .text .now) (g .row) (g .cells .now) (g .c) s shown (c .before .before .before .before .before .before .before .if1 .left) (g .cells .now) 1 (shown .kept) (ap (λ (l : Line). l .code) other) (λ z. omega arith),
       (omega arith, λ z. omega arith),
     )
-
-value-of-requires : tie.Need-value-of-requires
-value-of-requires c κs = search needs
 
 value-kept-requires : tie.Need-value-kept-requires
 value-kept-requires c κs = (omega (arith, c .before .before .before .before .before .before .before .before .before .before .before .before .pre .0), c .before .before .before .before .before .before .before .before .before .before .before .before .pre .1 (c .before .before .before .before .before .before .before .before .if1 .left))
@@ -83,12 +59,6 @@ read c =
     ∙ by-key (g .text .now) (g .c .at) (g .row) (f .result) (f .ensures) (c .before .before .before .before .before .before .before .if2 .left) true (sym (c .before .before .before .before .key-is .ensures) ∙ not-false _ (c .before .before .before .if3 .left)))
     (c .value-kept .ensures)
 
-refused-requires-3 : tie.Need-refused-requires-3
-refused-requires-3 c κs = search needs
-
-same-length : tie.Need-same-length
-same-length c = search needs
-
 returns-4 : tie.Need-returns-4
 returns-4 c =
     let g = c .before .before .before .before .before .before .before .before .before .before .before .before .before .before .before .before .before .args in
@@ -97,15 +67,6 @@ returns-4 c =
       λ s shown. shown-placed-bad (g .text .now) (g .row) (g .cells .now) (g .c) s shown (c .before .before .before .before .before .before .before .before .before .before .before .before .before .if1 .left) (r .last .1 .1 .1 .0) (r .result) (read (c .before .before .before .before)) (r .kept .1 .1 .1 .0) (c .before .if4 .taken),
       (omega arith, λ z. absurd (c .before .if4 .taken z)),
     )
-
-add-t12 : tie.Need-add-t12
-add-t12 c = search needs
-
-add-t19 : tie.Need-add-t19
-add-t19 c = search needs
-
-same-length-2 : tie.Need-same-length-2
-same-length-2 c = search needs
 
 returns-5 : tie.Need-returns-5
 returns-5 c =
@@ -124,21 +85,13 @@ read-line-spec =
     tie.close
     (tie.spec
     returns
-    find-requires
-    refused-requires
+    (λ c κs. search needs) (λ c κs. search needs)
     returns-2
-    sub-line
-    part-line-start
-    part-line-end
-    key-is-requires
-    refused-requires-2
+    (λ c. search needs) (λ c. search needs) (λ c. search needs) (λ c κs. search needs) (λ c κs. search needs)
     returns-3
-    value-of-requires
+    (λ c κs. search needs)
     value-kept-requires
-    refused-requires-3
-    same-length
+    (λ c κs. search needs) (λ c. search needs)
     returns-4
-    add-t12
-    add-t19
-    same-length-2
+    (λ c. search needs) (λ c. search needs) (λ c. search needs)
     returns-5)

@@ -15,21 +15,6 @@ use borrow.Author.Needs.{needs}
 use Rattle.listing.proofs.put_item_field.Statement.{statement}
 use Rattle.listing.proofs.put_item_field.Tie as tie
 
-put-byte-requires : tie.Need-put-byte-requires
-put-byte-requires c κs = search needs
-
-mul-put-signed : tie.Need-mul-put-signed
-mul-put-signed c = search needs
-
-element-copy-out-put-signed : tie.Need-element-copy-out-put-signed
-element-copy-out-put-signed c = search needs
-
-put-signed-requires : tie.Need-put-signed-requires
-put-signed-requires c κs = search needs
-
-same-length : tie.Need-same-length
-same-length c = search needs
-
 returns : tie.Need-returns
 unfolding itemField
 returns c =
@@ -45,9 +30,5 @@ pub put-item-field-spec : {M : Type 1} → statement M
 put-item-field-spec =
     tie.close
     (tie.spec
-    put-byte-requires
-    mul-put-signed
-    element-copy-out-put-signed
-    put-signed-requires
-    same-length
+    (λ c κs. search needs) (λ c. search needs) (λ c. search needs) (λ c κs. search needs) (λ c. search needs)
     returns)

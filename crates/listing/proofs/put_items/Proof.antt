@@ -22,9 +22,6 @@ abbrev μ-loop : tie.MeasureT-loop
 loop-holds : tie.Need-loop-holds Inv-loop μ-loop
 loop-holds c = (omega arith, (none-joined _ _, omega arith))
 
-put-item-field-requires : tie.Need-put-item-field-requires Inv-loop μ-loop
-put-item-field-requires c κs = search needs
-
 add-i : tie.Need-add-i Inv-loop μ-loop
 add-i c = omega (arith, c .before .before .before .before .loop-test .taken)
 
@@ -59,7 +56,7 @@ put-items-spec =
     Inv-loop
     μ-loop
     loop-holds
-    put-item-field-requires
+    (λ c κs. search needs)
     add-i
     loop-less
     loop-again

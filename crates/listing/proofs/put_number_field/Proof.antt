@@ -12,15 +12,6 @@ use borrow.Author.Needs.{needs}
 use Rattle.listing.proofs.put_number_field.Statement.{statement}
 use Rattle.listing.proofs.put_number_field.Tie as tie
 
-put-byte-requires : tie.Need-put-byte-requires
-put-byte-requires c κs = search needs
-
-put-number-requires : tie.Need-put-number-requires
-put-number-requires c κs = search needs
-
-same-length : tie.Need-same-length
-same-length c = search needs
-
 returns : tie.Need-returns
 returns c =
     let g = c .before .before .before .before .before .before .before .before .before .args in
@@ -33,10 +24,4 @@ returns c =
     )
 
 pub put-number-field-spec : {M : Type 1} → statement M
-put-number-field-spec =
-    tie.close
-    (tie.spec
-    put-byte-requires
-    put-number-requires
-    same-length
-    returns)
+put-number-field-spec = tie.close (tie.spec (λ c κs. search needs) (λ c κs. search needs) (λ c. search needs) returns)

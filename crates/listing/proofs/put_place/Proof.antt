@@ -8,21 +8,6 @@ use borrow.Author.Needs.{needs}
 use Rattle.listing.proofs.put_place.Statement.{statement}
 use Rattle.listing.proofs.put_place.Tie as tie
 
-member-at-requires : tie.Need-member-at-requires
-member-at-requires c κs = search needs
-
-add-put-unit-line : tie.Need-add-put-unit-line
-add-put-unit-line c = search needs
-
-add-put-unit-line-2 : tie.Need-add-put-unit-line-2
-add-put-unit-line-2 c = search needs
-
-put-unit-line-requires : tie.Need-put-unit-line-requires
-put-unit-line-requires c κs = search needs
-
-same-length : tie.Need-same-length
-same-length c = search needs
-
 returns : tie.Need-returns
 unfolding lineOf
 returns c =
@@ -36,10 +21,6 @@ pub put-place-spec : {M : Type 1} → statement M
 put-place-spec =
     tie.close
     (tie.spec
-    member-at-requires
-    add-put-unit-line
-    add-put-unit-line-2
-    put-unit-line-requires
-    same-length
+    (λ c κs. search needs) (λ c. search needs) (λ c. search needs) (λ c κs. search needs) (λ c. search needs)
     returns
     returns-2)

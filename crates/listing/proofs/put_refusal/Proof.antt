@@ -14,21 +14,6 @@ use borrow.Author.Needs.{needs}
 use Rattle.listing.proofs.put_refusal.Statement.{statement}
 use Rattle.listing.proofs.put_refusal.Tie as tie
 
-slice-aggregate-put-bytes : tie.Need-slice-aggregate-put-bytes
-slice-aggregate-put-bytes c = search needs
-
-put-bytes-requires : tie.Need-put-bytes-requires
-put-bytes-requires c κs = search needs
-
-put-number-requires : tie.Need-put-number-requires
-put-number-requires c κs = search needs
-
-put-byte-requires : tie.Need-put-byte-requires
-put-byte-requires c κs = search needs
-
-same-length : tie.Need-same-length
-same-length c = search needs
-
 returns : tie.Need-returns
 unfolding refusalLine
 returns c =
@@ -47,9 +32,5 @@ pub put-refusal-spec : {M : Type 1} → statement M
 put-refusal-spec =
     tie.close
     (tie.spec
-    slice-aggregate-put-bytes
-    put-bytes-requires
-    put-number-requires
-    put-byte-requires
-    same-length
+    (λ c. search needs) (λ c κs. search needs) (λ c κs. search needs) (λ c κs. search needs) (λ c. search needs)
     returns)

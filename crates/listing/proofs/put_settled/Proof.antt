@@ -22,24 +22,6 @@ abbrev μ-loop : tie.MeasureT-loop
 loop-holds : tie.Need-loop-holds Inv-loop μ-loop
 loop-holds c = (omega arith, (none-joined _ _, omega arith))
 
-mul-mark : tie.Need-mul-mark Inv-loop μ-loop
-mul-mark c = search needs
-
-element-copy-out-mark : tie.Need-element-copy-out-mark Inv-loop μ-loop
-element-copy-out-mark c = search needs
-
-mul-grains : tie.Need-mul-grains Inv-loop μ-loop
-mul-grains c = search needs
-
-element-copy-out-grains : tie.Need-element-copy-out-grains Inv-loop μ-loop
-element-copy-out-grains c = search needs
-
-mul-amounts : tie.Need-mul-amounts Inv-loop μ-loop
-mul-amounts c = search needs
-
-element-copy-out-amounts : tie.Need-element-copy-out-amounts Inv-loop μ-loop
-element-copy-out-amounts c = search needs
-
 put-entry-requires : tie.Need-put-entry-requires Inv-loop μ-loop
 put-entry-requires c κs = (omega arith, omega arith)
 
@@ -78,12 +60,8 @@ put-settled-spec =
     Inv-loop
     μ-loop
     loop-holds
-    mul-mark
-    element-copy-out-mark
-    mul-grains
-    element-copy-out-grains
-    mul-amounts
-    element-copy-out-amounts
+    (λ c. search needs) (λ c. search needs) (λ c. search needs) (λ c. search needs) (λ c. search needs)
+    (λ c. search needs)
     put-entry-requires
     add-e
     loop-less

@@ -15,24 +15,6 @@ use borrow.Author.Needs.{needs}
 use Rattle.listing.proofs.put_unit_line.Statement.{statement}
 use Rattle.listing.proofs.put_unit_line.Tie as tie
 
-put-number-requires : tie.Need-put-number-requires
-put-number-requires c κs = search needs
-
-put-number-field-requires : tie.Need-put-number-field-requires
-put-number-field-requires c κs = search needs
-
-put-number-field-requires-2 : tie.Need-put-number-field-requires-2
-put-number-field-requires-2 c κs = search needs
-
-put-items-requires : tie.Need-put-items-requires
-put-items-requires c κs = search needs
-
-put-byte-requires : tie.Need-put-byte-requires
-put-byte-requires c κs = search needs
-
-same-length : tie.Need-same-length
-same-length c = search needs
-
 returns : tie.Need-returns
 unfolding unitLine
 returns c =
@@ -55,10 +37,6 @@ pub put-unit-line-spec : {M : Type 1} → statement M
 put-unit-line-spec =
     tie.close
     (tie.spec
-    put-number-requires
-    put-number-field-requires
-    put-number-field-requires-2
-    put-items-requires
-    put-byte-requires
-    same-length
+    (λ c κs. search needs) (λ c κs. search needs) (λ c κs. search needs) (λ c κs. search needs) (λ c κs. search needs)
+    (λ c. search needs)
     returns)

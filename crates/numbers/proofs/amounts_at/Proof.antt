@@ -20,30 +20,6 @@ abbrev μ-loop : tie.MeasureT-loop
 loop-holds : tie.Need-loop-holds Inv-loop μ-loop
 loop-holds c = filling-none items (λ i. getD (c .args .amounts .now) (items * (c .args .j) + i) (pos 0)) (pos 0)
 
-mul-item : tie.Need-mul-item Inv-loop μ-loop
-mul-item c = search needs
-
-add-item : tie.Need-add-item Inv-loop μ-loop
-add-item c = search needs
-
-mul-item-2 : tie.Need-mul-item-2 Inv-loop μ-loop
-mul-item-2 c = search needs
-
-shared-slice-copy-out-item : tie.Need-shared-slice-copy-out-item Inv-loop μ-loop
-shared-slice-copy-out-item c = search needs
-
-mul-item-3 : tie.Need-mul-item-3 Inv-loop μ-loop
-mul-item-3 c = search needs
-
-array-set-from-item : tie.Need-array-set-from-item Inv-loop μ-loop
-array-set-from-item c = search needs
-
-add-i : tie.Need-add-i Inv-loop μ-loop
-add-i c = search needs
-
-loop-less : tie.Need-loop-less Inv-loop μ-loop
-loop-less c = search needs
-
 loop-again : tie.Need-loop-again Inv-loop μ-loop
 loop-again c =
     let l = c .before .before .loop in
@@ -63,13 +39,7 @@ amounts-at-spec =
     Inv-loop
     μ-loop
     loop-holds
-    mul-item
-    add-item
-    mul-item-2
-    shared-slice-copy-out-item
-    mul-item-3
-    array-set-from-item
-    add-i
-    loop-less
+    (λ c. search needs) (λ c. search needs) (λ c. search needs) (λ c. search needs) (λ c. search needs)
+    (λ c. search needs) (λ c. search needs) (λ c. search needs)
     loop-again
     returns)

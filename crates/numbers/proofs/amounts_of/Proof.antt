@@ -15,26 +15,8 @@ Inv-loop amounts out₀ j₀ out j = Filling entries (amountsAt amounts) out j
 abbrev μ-loop : tie.MeasureT-loop
 μ-loop amounts out₀ j₀ out j = entries - j
 
-no-amounts-requires : tie.Need-no-amounts-requires Inv-loop μ-loop
-no-amounts-requires c κs = search needs
-
 loop-holds : tie.Need-loop-holds Inv-loop μ-loop
 loop-holds c = filling-none entries (amountsAt (c .before .args .amounts .now)) (c .no-amounts .result)
-
-amounts-at-requires : tie.Need-amounts-at-requires Inv-loop μ-loop
-amounts-at-requires c κs = search needs
-
-mul-out : tie.Need-mul-out Inv-loop μ-loop
-mul-out c = search needs
-
-array-set-from-out : tie.Need-array-set-from-out Inv-loop μ-loop
-array-set-from-out c = search needs
-
-add-j : tie.Need-add-j Inv-loop μ-loop
-add-j c = search needs
-
-loop-less : tie.Need-loop-less Inv-loop μ-loop
-loop-less c = search needs
 
 loop-again : tie.Need-loop-again Inv-loop μ-loop
 loop-again c =
@@ -53,12 +35,8 @@ amounts-of-spec =
     (tie.spec
     Inv-loop
     μ-loop
-    no-amounts-requires
+    (λ c κs. search needs)
     loop-holds
-    amounts-at-requires
-    mul-out
-    array-set-from-out
-    add-j
-    loop-less
+    (λ c κs. search needs) (λ c. search needs) (λ c. search needs) (λ c. search needs) (λ c. search needs)
     loop-again
     returns)

@@ -4,15 +4,6 @@ use borrow.Author.Needs.{needs}
 use Rattle.numbers.proofs.book_by.Statement.{statement}
 use Rattle.numbers.proofs.book_by.Tie as tie
 
-commitments-of-requires : tie.Need-commitments-of-requires
-commitments-of-requires c κs = search needs
-
-energies-of-requires : tie.Need-energies-of-requires
-energies-of-requires c κs = search needs
-
-amounts-of-requires : tie.Need-amounts-of-requires
-amounts-of-requires c κs = search needs
-
 returns : tie.Need-returns
 returns c =
     λ i.
@@ -24,5 +15,4 @@ returns c =
     }
 
 pub book-by-spec : {M : Type 1} → statement M
-book-by-spec =
-    tie.close (tie.spec commitments-of-requires energies-of-requires amounts-of-requires returns)
+book-by-spec = tie.close (tie.spec (λ c κs. search needs) (λ c κs. search needs) (λ c κs. search needs) returns)

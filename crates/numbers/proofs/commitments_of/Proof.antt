@@ -20,24 +20,6 @@ abbrev μ-loop : tie.MeasureT-loop
 loop-holds : tie.Need-loop-holds Inv-loop μ-loop
 loop-holds c = filling-none entries (λ j. record { 0 = getD (c .args .commitment .now) j 0 }) (record { 0 = 0 })
 
-mul-t6 : tie.Need-mul-t6 Inv-loop μ-loop
-mul-t6 c = search needs
-
-shared-slice-read-t8 : tie.Need-shared-slice-read-t8 Inv-loop μ-loop
-shared-slice-read-t8 c = search needs
-
-mul-out : tie.Need-mul-out Inv-loop μ-loop
-mul-out c = search needs
-
-array-set-from-out : tie.Need-array-set-from-out Inv-loop μ-loop
-array-set-from-out c = search needs
-
-add-j : tie.Need-add-j Inv-loop μ-loop
-add-j c = search needs
-
-loop-less : tie.Need-loop-less Inv-loop μ-loop
-loop-less c = search needs
-
 loop-again : tie.Need-loop-again Inv-loop μ-loop
 loop-again c =
     let l = c .before .before .loop in
@@ -56,11 +38,7 @@ commitments-of-spec =
     Inv-loop
     μ-loop
     loop-holds
-    mul-t6
-    shared-slice-read-t8
-    mul-out
-    array-set-from-out
-    add-j
-    loop-less
+    (λ c. search needs) (λ c. search needs) (λ c. search needs) (λ c. search needs) (λ c. search needs)
+    (λ c. search needs)
     loop-again
     returns)

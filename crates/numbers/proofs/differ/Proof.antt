@@ -25,30 +25,6 @@ abbrev μ-loop : tie.MeasureT-loop
 loop-holds : tie.Need-loop-holds Inv-loop μ-loop
 loop-holds c = pasting-none hourItems (differenceIn (c .args .amounts .now) (c .args .h) (c .args .t5)) (c .args .rows .now) (c .args .at)
 
-mul-its : tie.Need-mul-its Inv-loop μ-loop
-mul-its c = search needs
-
-array-copy-out-its : tie.Need-array-copy-out-its Inv-loop μ-loop
-array-copy-out-its c = search needs
-
-mul-difference : tie.Need-mul-difference Inv-loop μ-loop
-mul-difference c = search needs
-
-element-copy-out-difference : tie.Need-element-copy-out-difference Inv-loop μ-loop
-element-copy-out-difference c = search needs
-
-mul-difference-2 : tie.Need-mul-difference-2 Inv-loop μ-loop
-mul-difference-2 c = search needs
-
-add-difference : tie.Need-add-difference Inv-loop μ-loop
-add-difference c = search needs
-
-mul-difference-3 : tie.Need-mul-difference-3 Inv-loop μ-loop
-mul-difference-3 c = search needs
-
-shared-slice-copy-out-difference : tie.Need-shared-slice-copy-out-difference Inv-loop μ-loop
-shared-slice-copy-out-difference c = search needs
-
 difference-requires : tie.Need-difference-requires Inv-loop μ-loop
 difference-requires c κs =
     let l = c .before .before .before .before .loop in
@@ -60,21 +36,6 @@ difference-requires c κs =
     let o : natAbs old ≤ mostAmount = pre .3 (hourItems * a .h + l .j) in
     (rw (back new (c .before .difference-arg .given)) n, rw (back old (c .difference-arg2 .given)) o)
 
-add-t24 : tie.Need-add-t24 Inv-loop μ-loop
-add-t24 c = search needs
-
-mul-t25 : tie.Need-mul-t25 Inv-loop μ-loop
-mul-t25 c = search needs
-
-slice-set-from-rows : tie.Need-slice-set-from-rows Inv-loop μ-loop
-slice-set-from-rows c = search needs
-
-add-j : tie.Need-add-j Inv-loop μ-loop
-add-j c = search needs
-
-loop-less : tie.Need-loop-less Inv-loop μ-loop
-loop-less c = search needs
-
 loop-again : tie.Need-loop-again Inv-loop μ-loop
 loop-again c =
     let l = c .before .before .before .before .before .loop in
@@ -84,9 +45,6 @@ loop-again c =
     let taken = ap₂ (λ (x y : ℤ). x -ℤ y) (back new (c .before .before .difference-arg .given)) (back old (c .before .difference-arg2 .given)) in
     pasting-next hourItems (differenceIn (a .amounts .now) (a .h) (a .t5)) (a .rows .now) (a .at) (l .rows) (l .j) _ (l .inv) (omega arith) (omega arith)
     (back _ (c .difference .ok) ∙ (c .difference .ensures ∙ taken))
-
-same-length : tie.Need-same-length Inv-loop μ-loop
-same-length c = search needs
 
 returns : tie.Need-returns Inv-loop μ-loop
 unfolding differences
@@ -102,20 +60,10 @@ differ-spec =
     Inv-loop
     μ-loop
     loop-holds
-    mul-its
-    array-copy-out-its
-    mul-difference
-    element-copy-out-difference
-    mul-difference-2
-    add-difference
-    mul-difference-3
-    shared-slice-copy-out-difference
+    (λ c. search needs) (λ c. search needs) (λ c. search needs) (λ c. search needs) (λ c. search needs)
+    (λ c. search needs) (λ c. search needs) (λ c. search needs)
     difference-requires
-    add-t24
-    mul-t25
-    slice-set-from-rows
-    add-j
-    loop-less
+    (λ c. search needs) (λ c. search needs) (λ c. search needs) (λ c. search needs) (λ c. search needs)
     loop-again
-    same-length
+    (λ c. search needs)
     returns)

@@ -21,24 +21,6 @@ abbrev μ-loop : tie.MeasureT-loop
 loop-holds : tie.Need-loop-holds Inv-loop μ-loop
 loop-holds c = filling-none entries (λ j. getD (c .args .t1) j noGrains .0) 0
 
-mul-grains : tie.Need-mul-grains Inv-loop μ-loop
-mul-grains c = search needs
-
-array-copy-out-grains : tie.Need-array-copy-out-grains Inv-loop μ-loop
-array-copy-out-grains c = search needs
-
-mul-out : tie.Need-mul-out Inv-loop μ-loop
-mul-out c = search needs
-
-array-write-out : tie.Need-array-write-out Inv-loop μ-loop
-array-write-out c = search needs
-
-add-j : tie.Need-add-j Inv-loop μ-loop
-add-j c = search needs
-
-loop-less : tie.Need-loop-less Inv-loop μ-loop
-loop-less c = search needs
-
 loop-again : tie.Need-loop-again Inv-loop μ-loop
 loop-again c =
     let l = c .before .before .loop in
@@ -57,11 +39,7 @@ grains-of-spec =
     Inv-loop
     μ-loop
     loop-holds
-    mul-grains
-    array-copy-out-grains
-    mul-out
-    array-write-out
-    add-j
-    loop-less
+    (λ c. search needs) (λ c. search needs) (λ c. search needs) (λ c. search needs) (λ c. search needs)
+    (λ c. search needs)
     loop-again
     returns)

@@ -26,55 +26,10 @@ Inv-loop offers j quantity₀ price₀ at i₀ quantity price i =
 abbrev μ-loop : tie.MeasureT-loop
 μ-loop offers j quantity₀ price₀ at i₀ quantity price i = 10 - i
 
-mul-at : tie.Need-mul-at Inv-loop μ-loop
-mul-at c = search needs
-
 loop-holds : tie.Need-loop-holds Inv-loop μ-loop
 loop-holds c =
     let a = c .args in
     (filling-none 10 (quantity-in (a .offers .now) (a .j)) (record { 0 = 0 }), filling-none 10 (price-in (a .offers .now) (a .j)) 0)
-
-add-price : tie.Need-add-price Inv-loop μ-loop
-add-price c = search needs
-
-add-price-2 : tie.Need-add-price-2 Inv-loop μ-loop
-add-price-2 c = search needs
-
-mul-price : tie.Need-mul-price Inv-loop μ-loop
-mul-price c = search needs
-
-shared-slice-read-price : tie.Need-shared-slice-read-price Inv-loop μ-loop
-shared-slice-read-price c = search needs
-
-mul-quantity : tie.Need-mul-quantity Inv-loop μ-loop
-mul-quantity c = search needs
-
-array-set-from-quantity : tie.Need-array-set-from-quantity Inv-loop μ-loop
-array-set-from-quantity c = search needs
-
-add-price-3 : tie.Need-add-price-3 Inv-loop μ-loop
-add-price-3 c = search needs
-
-add-price-4 : tie.Need-add-price-4 Inv-loop μ-loop
-add-price-4 c = search needs
-
-mul-price-2 : tie.Need-mul-price-2 Inv-loop μ-loop
-mul-price-2 c = search needs
-
-shared-slice-read-price-2 : tie.Need-shared-slice-read-price-2 Inv-loop μ-loop
-shared-slice-read-price-2 c = search needs
-
-mul-price-3 : tie.Need-mul-price-3 Inv-loop μ-loop
-mul-price-3 c = search needs
-
-array-write-price : tie.Need-array-write-price Inv-loop μ-loop
-array-write-price c = search needs
-
-add-i : tie.Need-add-i Inv-loop μ-loop
-add-i c = search needs
-
-loop-less : tie.Need-loop-less Inv-loop μ-loop
-loop-less c = search needs
 
 loop-again : tie.Need-loop-again Inv-loop μ-loop
 loop-again c =
@@ -83,12 +38,6 @@ loop-again c =
       filling-next 10 (quantity-in (a .offers .now) (a .j)) (l .quantity) (l .i) _ (l .inv .0) (omega arith) refl,
       filling-next 10 (price-in (a .offers .now) (a .j)) (l .price) (l .i) _ (l .inv .1) (omega arith) refl,
     )
-
-mul-t21 : tie.Need-mul-t21 Inv-loop μ-loop
-mul-t21 c = search needs
-
-shared-slice-read-t23 : tie.Need-shared-slice-read-t23 Inv-loop μ-loop
-shared-slice-read-t23 c = search needs
 
 returns : tie.Need-returns Inv-loop μ-loop
 unfolding offerIn
@@ -105,23 +54,11 @@ offer-in-spec =
     (tie.spec
     Inv-loop
     μ-loop
-    mul-at
+    (λ c. search needs)
     loop-holds
-    add-price
-    add-price-2
-    mul-price
-    shared-slice-read-price
-    mul-quantity
-    array-set-from-quantity
-    add-price-3
-    add-price-4
-    mul-price-2
-    shared-slice-read-price-2
-    mul-price-3
-    array-write-price
-    add-i
-    loop-less
+    (λ c. search needs) (λ c. search needs) (λ c. search needs) (λ c. search needs) (λ c. search needs)
+    (λ c. search needs) (λ c. search needs) (λ c. search needs) (λ c. search needs) (λ c. search needs)
+    (λ c. search needs) (λ c. search needs) (λ c. search needs) (λ c. search needs)
     loop-again
-    mul-t21
-    shared-slice-read-t23
+    (λ c. search needs) (λ c. search needs)
     returns)

@@ -15,32 +15,8 @@ Inv-loop offers h offer₀ k₀ offer k = Filling places (λ i. offerIn offers (
 abbrev μ-loop : tie.MeasureT-loop
 μ-loop offers h offer₀ k₀ offer k = places - k
 
-no-offer-requires : tie.Need-no-offer-requires Inv-loop μ-loop
-no-offer-requires c κs = search needs
-
 loop-holds : tie.Need-loop-holds Inv-loop μ-loop
 loop-holds c = let a = c .before .before .args in filling-none places (λ i. offerIn (a .offers .now) (entryOf (a .h) i)) (c .no-offer .result)
-
-mul-offer-in : tie.Need-mul-offer-in Inv-loop μ-loop
-mul-offer-in c = search needs
-
-add-offer-in : tie.Need-add-offer-in Inv-loop μ-loop
-add-offer-in c = search needs
-
-offer-in-requires : tie.Need-offer-in-requires Inv-loop μ-loop
-offer-in-requires c κs = search needs
-
-mul-offer : tie.Need-mul-offer Inv-loop μ-loop
-mul-offer c = search needs
-
-array-set-from-offer : tie.Need-array-set-from-offer Inv-loop μ-loop
-array-set-from-offer c = search needs
-
-add-k : tie.Need-add-k Inv-loop μ-loop
-add-k c = search needs
-
-loop-less : tie.Need-loop-less Inv-loop μ-loop
-loop-less c = search needs
 
 loop-again : tie.Need-loop-again Inv-loop μ-loop
 loop-again c =
@@ -60,14 +36,9 @@ offers-in-spec =
     (tie.spec
     Inv-loop
     μ-loop
-    no-offer-requires
+    (λ c κs. search needs)
     loop-holds
-    mul-offer-in
-    add-offer-in
-    offer-in-requires
-    mul-offer
-    array-set-from-offer
-    add-k
-    loop-less
+    (λ c. search needs) (λ c. search needs) (λ c κs. search needs) (λ c. search needs) (λ c. search needs)
+    (λ c. search needs) (λ c. search needs)
     loop-again
     returns)

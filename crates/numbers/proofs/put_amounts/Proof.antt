@@ -19,35 +19,11 @@ abbrev μ-loop : tie.MeasureT-loop
 loop-holds : tie.Need-loop-holds Inv-loop μ-loop
 loop-holds c = pasting-none items (itemOf (c .args .t3)) (c .args .amounts .now) (c .args .at)
 
-mul-amounts : tie.Need-mul-amounts Inv-loop μ-loop
-mul-amounts c = search needs
-
-element-copy-out-amounts : tie.Need-element-copy-out-amounts Inv-loop μ-loop
-element-copy-out-amounts c = search needs
-
-add-t11 : tie.Need-add-t11 Inv-loop μ-loop
-add-t11 c = search needs
-
-mul-t12 : tie.Need-mul-t12 Inv-loop μ-loop
-mul-t12 c = search needs
-
-slice-set-from-amounts : tie.Need-slice-set-from-amounts Inv-loop μ-loop
-slice-set-from-amounts c = search needs
-
-add-i : tie.Need-add-i Inv-loop μ-loop
-add-i c = search needs
-
-loop-less : tie.Need-loop-less Inv-loop μ-loop
-loop-less c = search needs
-
 loop-again : tie.Need-loop-again Inv-loop μ-loop
 loop-again c =
     let l = c .before .before .loop in
     let a = c .before .before .before .args in
     pasting-next items (itemOf (a .t3)) (a .amounts .now) (a .at) (l .amounts) (l .i) _ (l .inv) (omega arith) (omega arith) (back _ (c .amounts .given))
-
-same-length : tie.Need-same-length Inv-loop μ-loop
-same-length c = search needs
 
 returns : tie.Need-returns Inv-loop μ-loop
 returns c =
@@ -61,13 +37,8 @@ put-amounts-spec =
     Inv-loop
     μ-loop
     loop-holds
-    mul-amounts
-    element-copy-out-amounts
-    add-t11
-    mul-t12
-    slice-set-from-amounts
-    add-i
-    loop-less
+    (λ c. search needs) (λ c. search needs) (λ c. search needs) (λ c. search needs) (λ c. search needs)
+    (λ c. search needs) (λ c. search needs)
     loop-again
-    same-length
+    (λ c. search needs)
     returns)

@@ -8,20 +8,8 @@ use borrow.Author.Needs.{needs}
 use Rattle.numbers.proofs.put_offer.Statement.{statement}
 use Rattle.numbers.proofs.put_offer.Tie as tie
 
-mul-out : tie.Need-mul-out
-mul-out c = search needs
-
-slice-write-out : tie.Need-slice-write-out
-slice-write-out c = search needs
-
-add-put-quantities : tie.Need-add-put-quantities
-add-put-quantities c = search needs
-
 put-quantities-requires : tie.Need-put-quantities-requires
 put-quantities-requires c κs = simp length-set (omega arith)
-
-add-put-prices : tie.Need-add-put-prices
-add-put-prices c = search needs
 
 put-prices-requires : tie.Need-put-prices-requires
 put-prices-requires c κs =
@@ -48,11 +36,9 @@ pub put-offer-spec : {M : Type 1} → statement M
 put-offer-spec =
     tie.close
     (tie.spec
-    mul-out
-    slice-write-out
-    add-put-quantities
+    (λ c. search needs) (λ c. search needs) (λ c. search needs)
     put-quantities-requires
-    add-put-prices
+    (λ c. search needs)
     put-prices-requires
     same-length
     returns)

@@ -19,29 +19,8 @@ abbrev μ-loop : tie.MeasureT-loop
 loop-holds : tie.Need-loop-holds Inv-loop μ-loop
 loop-holds c = (omega arith, refl, unit-none _ _ _)
 
-mul-o : tie.Need-mul-o Inv-loop μ-loop
-mul-o c = search needs
-
-element-copy-out-o : tie.Need-element-copy-out-o Inv-loop μ-loop
-element-copy-out-o c = search needs
-
-mul-put-offer : tie.Need-mul-put-offer Inv-loop μ-loop
-mul-put-offer c = search needs
-
-add-put-offer : tie.Need-add-put-offer Inv-loop μ-loop
-add-put-offer c = search needs
-
-mul-put-offer-2 : tie.Need-mul-put-offer-2 Inv-loop μ-loop
-mul-put-offer-2 c = search needs
-
 put-offer-requires : tie.Need-put-offer-requires Inv-loop μ-loop
 put-offer-requires c κs = omega (arith, c .before .before .before .loop .inv .1, c .before .before .before .before .before .pre .0, c .before .before .before .before .before .pre .1)
-
-add-h : tie.Need-add-h Inv-loop μ-loop
-add-h c = search needs
-
-loop-less : tie.Need-loop-less Inv-loop μ-loop
-loop-less c = search needs
 
 loop-again : tie.Need-loop-again Inv-loop μ-loop
 loop-again c =
@@ -66,14 +45,9 @@ put-unit-spec =
     Inv-loop
     μ-loop
     loop-holds
-    mul-o
-    element-copy-out-o
-    mul-put-offer
-    add-put-offer
-    mul-put-offer-2
+    (λ c. search needs) (λ c. search needs) (λ c. search needs) (λ c. search needs) (λ c. search needs)
     put-offer-requires
-    add-h
-    loop-less
+    (λ c. search needs) (λ c. search needs)
     loop-again
     same-length
     returns)

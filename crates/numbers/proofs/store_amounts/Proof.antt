@@ -23,33 +23,6 @@ abbrev μ-loop : tie.MeasureT-loop
 loop-holds : tie.Need-loop-holds Inv-loop μ-loop
 loop-holds c = stored-first amountsOf pastAmounts (c .args .h) (c .args .units) (c .args .t4) (c .args .amounts .now) (amounts-length (c .args .amounts .now))
 
-member-at-requires : tie.Need-member-at-requires Inv-loop μ-loop
-member-at-requires c κs = search needs
-
-mul-its : tie.Need-mul-its Inv-loop μ-loop
-mul-its c = search needs
-
-array-copy-out-its : tie.Need-array-copy-out-its Inv-loop μ-loop
-array-copy-out-its c = search needs
-
-mul-put-amounts : tie.Need-mul-put-amounts Inv-loop μ-loop
-mul-put-amounts c = search needs
-
-add-put-amounts : tie.Need-add-put-amounts Inv-loop μ-loop
-add-put-amounts c = search needs
-
-mul-put-amounts-2 : tie.Need-mul-put-amounts-2 Inv-loop μ-loop
-mul-put-amounts-2 c = search needs
-
-put-amounts-requires : tie.Need-put-amounts-requires Inv-loop μ-loop
-put-amounts-requires c κs = search needs
-
-add-p : tie.Need-add-p Inv-loop μ-loop
-add-p c = search needs
-
-loop-less : tie.Need-loop-less Inv-loop μ-loop
-loop-less c = search needs
-
 loop-again : tie.Need-loop-again Inv-loop μ-loop
 loop-again c =
     let l = c .before .before .before .loop in
@@ -70,9 +43,6 @@ loop-again c =
     (stored-past amountsOf pastAmounts (a .h) (a .units) (a .t4) (a .amounts .now) (l .p) (l .amounts) (l .inv) below (sym (c .before .member-at .ensures) ∙ w .0 .left)))
     (c .if1 .came)
 
-same-length : tie.Need-same-length Inv-loop μ-loop
-same-length c = search needs
-
 returns : tie.Need-returns Inv-loop μ-loop
 returns c =
     let l = c .before .loop in
@@ -86,15 +56,8 @@ store-amounts-spec =
     Inv-loop
     μ-loop
     loop-holds
-    member-at-requires
-    mul-its
-    array-copy-out-its
-    mul-put-amounts
-    add-put-amounts
-    mul-put-amounts-2
-    put-amounts-requires
-    add-p
-    loop-less
+    (λ c κs. search needs) (λ c. search needs) (λ c. search needs) (λ c. search needs) (λ c. search needs)
+    (λ c. search needs) (λ c κs. search needs) (λ c. search needs) (λ c. search needs)
     loop-again
-    same-length
+    (λ c. search needs)
     returns)

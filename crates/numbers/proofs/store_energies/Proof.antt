@@ -23,33 +23,6 @@ abbrev μ-loop : tie.MeasureT-loop
 loop-holds : tie.Need-loop-holds Inv-loop μ-loop
 loop-holds c = stored-first energiesOf noGrains (c .before .args .h) (c .before .args .units) (c .before .args .t4) (c .before .args .energy .now) (energies-length (c .before .args .energy .now))
 
-member-at-requires : tie.Need-member-at-requires Inv-loop μ-loop
-member-at-requires c κs = search needs
-
-mul-grains : tie.Need-mul-grains Inv-loop μ-loop
-mul-grains c = search needs
-
-array-copy-out-grains : tie.Need-array-copy-out-grains Inv-loop μ-loop
-array-copy-out-grains c = search needs
-
-mul-energy : tie.Need-mul-energy Inv-loop μ-loop
-mul-energy c = search needs
-
-add-energy : tie.Need-add-energy Inv-loop μ-loop
-add-energy c = search needs
-
-mul-energy-2 : tie.Need-mul-energy-2 Inv-loop μ-loop
-mul-energy-2 c = search needs
-
-slice-write-energy : tie.Need-slice-write-energy Inv-loop μ-loop
-slice-write-energy c = search needs
-
-add-k : tie.Need-add-k Inv-loop μ-loop
-add-k c = search needs
-
-loop-less : tie.Need-loop-less Inv-loop μ-loop
-loop-less c = search needs
-
 loop-again : tie.Need-loop-again Inv-loop μ-loop
 loop-again c =
     let l = c .before .before .before .loop in
@@ -66,9 +39,6 @@ loop-again c =
     (stored-past energiesOf noGrains (a .h) (a .units) (a .t4) (a .energy .now) (l .k) (l .energy) (l .inv) below (sym (c .before .member-at .ensures) ∙ w .0 .left)))
     (c .if1 .came)
 
-same-length : tie.Need-same-length Inv-loop μ-loop
-same-length c = search needs
-
 returns : tie.Need-returns Inv-loop μ-loop
 returns c =
     let l = c .before .loop in
@@ -82,15 +52,8 @@ store-energies-spec =
     Inv-loop
     μ-loop
     loop-holds
-    member-at-requires
-    mul-grains
-    array-copy-out-grains
-    mul-energy
-    add-energy
-    mul-energy-2
-    slice-write-energy
-    add-k
-    loop-less
+    (λ c κs. search needs) (λ c. search needs) (λ c. search needs) (λ c. search needs) (λ c. search needs)
+    (λ c. search needs) (λ c. search needs) (λ c. search needs) (λ c. search needs)
     loop-again
-    same-length
+    (λ c. search needs)
     returns)

@@ -26,15 +26,6 @@ past c =
     let t = ltb-false (c .before .before .before .args .i .0) (c .before .before .grains-of .result .0) (sym (c .before .exceeds .ensures) ∙ c .if1 .left) in
     omega (arith, e, t)
 
-grains-of-requires : tie.Need-grains-of-requires Inv-loop μ-loop
-grains-of-requires c κs = search needs
-
-exceeds-requires : tie.Need-exceeds-requires Inv-loop μ-loop
-exceeds-requires c κs = search needs
-
-lesser-requires : tie.Need-lesser-requires Inv-loop μ-loop
-lesser-requires c κs = search needs
-
 returns : tie.Need-returns Inv-loop μ-loop
 returns c =
     let a = c .before .before .before .before .args in
@@ -58,17 +49,11 @@ element-copy-out-quantity c = omega (arith, holds (c .before .before .before .be
 grains-of-requires-2 : tie.Need-grains-of-requires-2 Inv-loop μ-loop
 grains-of-requires-2 c κs = omega (arith, holds (c .before .before .before .before .before .before .args .t1) (c .before .before .before .before .before .before .pre .0) .quantity-most (c .before .before .loop .s) (omega arith))
 
-exceeds-requires-2 : tie.Need-exceeds-requires-2 Inv-loop μ-loop
-exceeds-requires-2 c κs = search needs
-
 mul-price : tie.Need-mul-price Inv-loop μ-loop
 mul-price c = omega (arith, holds (c .before .before .before .before .before .before .before .before .before .args .t1) (c .before .before .before .before .before .before .before .before .before .pre .0) .most)
 
 element-copy-out-price : tie.Need-element-copy-out-price Inv-loop μ-loop
 element-copy-out-price c = omega (arith, holds (c .before .before .before .before .before .before .before .before .before .args .t1) (c .before .before .before .before .before .before .before .before .before .pre .0) .most)
-
-lesser-requires-2 : tie.Need-lesser-requires-2 Inv-loop μ-loop
-lesser-requires-2 c κs = search needs
 
 returns-2 : tie.Need-returns-2 Inv-loop μ-loop
 returns-2 c =
@@ -81,12 +66,6 @@ returns-2 c =
     (past (c .before .before .before .before .before .before .before .before))
     (record { known = l .inv .0; rest = l .inv .1; ends = λ h. omega (arith, q, t) }) (c .before .before .before .before .before .before .loop-test .taken)
     (omega (arith, t, e, c .before .before .before .before .before .before .before .before .before .before .before .pre .2)) (omega (arith, e)) (omega (arith, q, e))
-
-add-s : tie.Need-add-s Inv-loop μ-loop
-add-s c = search needs
-
-loop-less : tie.Need-loop-less Inv-loop μ-loop
-loop-less c = search needs
 
 loop-again : tie.Need-loop-again Inv-loop μ-loop
 loop-again c =
@@ -115,22 +94,19 @@ block-at-spec =
     (tie.spec
     Inv-loop
     μ-loop
-    grains-of-requires
-    exceeds-requires
-    lesser-requires
+    (λ c κs. search needs) (λ c κs. search needs) (λ c κs. search needs)
     returns
     sub-last
     loop-holds
     mul-quantity
     element-copy-out-quantity
     grains-of-requires-2
-    exceeds-requires-2
+    (λ c κs. search needs)
     mul-price
     element-copy-out-price
-    lesser-requires-2
+    (λ c κs. search needs)
     returns-2
-    add-s
-    loop-less
+    (λ c. search needs) (λ c. search needs)
     loop-again
     mul-last-price
     element-copy-out-last-price

@@ -32,12 +32,6 @@ total c =
     let e : max (a .from .0) (grainsOf (a .commitment) .0) ≡ c .greater .result .0 = omega (arith, g, c .greater .ensures) in
     cost-steps (a .t1) (a .commitment) (a .from .0) (a .to .0) (c .before .before .pre .2) ∙ ap (λ (n : ℕ). costOn (a .t1) 0 n (a .to .0)) e
 
-grains-of-requires : tie.Need-grains-of-requires Inv-loop μ-loop
-grains-of-requires c κs = search needs
-
-greater-requires : tie.Need-greater-requires Inv-loop μ-loop
-greater-requires c κs = search needs
-
 sub-last : tie.Need-sub-last Inv-loop μ-loop
 sub-last c = holds (c .before .before .args .t1) (c .before .before .pre .0) .least
 
@@ -59,12 +53,6 @@ mul-price c = omega (arith, holds (c .before .before .before .before .before .be
 element-copy-out-price : tie.Need-element-copy-out-price Inv-loop μ-loop
 element-copy-out-price c = omega (arith, holds (c .before .before .before .before .before .before .args .t1) (c .before .before .before .before .before .before .pre .0) .most)
 
-lesser-requires : tie.Need-lesser-requires Inv-loop μ-loop
-lesser-requires c κs = search needs
-
-above-requires : tie.Need-above-requires Inv-loop μ-loop
-above-requires c κs = search needs
-
 -- a turn: the step's grains, then the later steps from the place `next` on
 turn : (c : tie.After-above Inv-loop μ-loop) (next : ℕ) → next ≡ max (c .before .before .before .before .before .before .loop .at .0) (c .before .before .before .grains-of2 .result .0) → costOn (c .before .before .before .before .before .before .before .before .before .args .t1) (c .before .before .before .before .before .before .loop .s) (c .before .before .before .before .before .before .loop .at .0) (c .before .before .before .before .before .before .before .before .before .args .to .0) ≡ c .above .result .0 * stepPrice (c .before .before .before .before .before .before .before .before .before .args .t1) (c .before .before .before .before .before .before .loop .s) + costOn (c .before .before .before .before .before .before .before .before .before .args .t1) (c .before .before .before .before .before .before .loop .s + 1) next (c .before .before .before .before .before .before .before .before .before .args .to .0)
 turn c next e =
@@ -80,15 +68,6 @@ cost-requires c κs = omega (arith, turn c _ refl, c .before .before .before .be
 add-cost : tie.Need-add-cost Inv-loop μ-loop
 add-cost c = omega (arith, c .cost .ensures, turn (c .before) _ refl, c .before .before .before .before .before .before .before .loop .inv)
 
-greater-requires-2 : tie.Need-greater-requires-2 Inv-loop μ-loop
-greater-requires-2 c κs = search needs
-
-add-s : tie.Need-add-s Inv-loop μ-loop
-add-s c = search needs
-
-loop-less : tie.Need-loop-less Inv-loop μ-loop
-loop-less c = search needs
-
 loop-again : tie.Need-loop-again Inv-loop μ-loop
 loop-again c =
     let i = c .before .before .before .before .before .before .before .before .loop .inv in
@@ -99,9 +78,6 @@ mul-last-price c = omega (arith, holds (c .before .before .before .before .args 
 
 element-copy-out-last-price : tie.Need-element-copy-out-last-price Inv-loop μ-loop
 element-copy-out-last-price c = omega (arith, holds (c .before .before .before .before .args .t1) (c .before .before .before .before .pre .0) .most, holds (c .before .before .before .before .args .t1) (c .before .before .before .before .pre .0) .least)
-
-above-requires-2 : tie.Need-above-requires-2 Inv-loop μ-loop
-above-requires-2 c κs = search needs
 
 -- the last step, with all grains that are left
 left : (c : tie.After-above2 Inv-loop μ-loop) → costOn (c .before .before .before .before .before .before .args .t1) (c .before .before .before .loop .s) (c .before .before .before .loop .at .0) (c .before .before .before .before .before .before .args .to .0) ≡ c .above2 .result .0 * stepPrice (c .before .before .before .before .before .before .args .t1) (c .before .before .before .loop .s)
@@ -125,8 +101,7 @@ cost-between-spec =
     (tie.spec
     Inv-loop
     μ-loop
-    grains-of-requires
-    greater-requires
+    (λ c κs. search needs) (λ c κs. search needs)
     sub-last
     loop-holds
     mul-quantity
@@ -134,17 +109,14 @@ cost-between-spec =
     grains-of-requires-2
     mul-price
     element-copy-out-price
-    lesser-requires
-    above-requires
+    (λ c κs. search needs) (λ c κs. search needs)
     cost-requires
     add-cost
-    greater-requires-2
-    add-s
-    loop-less
+    (λ c κs. search needs) (λ c. search needs) (λ c. search needs)
     loop-again
     mul-last-price
     element-copy-out-last-price
-    above-requires-2
+    (λ c κs. search needs)
     cost-requires-2
     add-result
     returns)

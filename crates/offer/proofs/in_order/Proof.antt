@@ -8,9 +8,6 @@ use Rattle.offer.specs.Offer.{inOrder}
 use Rattle.offer.proofs.in_order.Statement.{statement}
 use Rattle.offer.proofs.in_order.Tie as tie
 
-exceeds-requires : tie.Need-exceeds-requires
-exceeds-requires c κs = search needs
-
 returns : tie.Need-returns
 unfolding inOrder
 returns c =
@@ -26,4 +23,4 @@ returns-2 c =
     rw rises
 
 pub in-order-spec : {M : Type 1} → statement M
-in-order-spec = tie.close (tie.spec exceeds-requires returns returns-2)
+in-order-spec = tie.close (tie.spec (λ c κs. search needs) returns returns-2)

@@ -7,17 +7,11 @@ use Rattle.offer.specs.Offer.{inRange}
 use Rattle.offer.proofs.in_range.Statement.{statement}
 use Rattle.offer.proofs.in_range.Tie as tie
 
-exceeds-requires : tie.Need-exceeds-requires
-exceeds-requires c κs = search needs
-
 returns : tie.Need-returns
 unfolding inRange
 returns c =
     let q = c .before .before .args .quantity .0 in
     rw (lt-leb 1 q (ltb-true q 1 (sym (c .before .exceeds .ensures) ∙ c .if1 .taken)))
-
-exceeds-requires-2 : tie.Need-exceeds-requires-2
-exceeds-requires-2 c κs = search needs
 
 returns-2 : tie.Need-returns-2
 unfolding inRange
@@ -36,5 +30,4 @@ returns-3 c =
     rw (least, most)
 
 pub in-range-spec : {M : Type 1} → statement M
-in-range-spec =
-    tie.close (tie.spec exceeds-requires returns exceeds-requires-2 returns-2 returns-3)
+in-range-spec = tie.close (tie.spec (λ c κs. search needs) returns (λ c κs. search needs) returns-2 returns-3)

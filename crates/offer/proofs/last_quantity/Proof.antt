@@ -9,9 +9,6 @@ use Rattle.offer.proofs.Steps.{allowed}
 use Rattle.offer.proofs.last_quantity.Statement.{statement}
 use Rattle.offer.proofs.last_quantity.Tie as tie
 
-steps-allowed-requires : tie.Need-steps-allowed-requires
-steps-allowed-requires c κs = search needs
-
 returns : tie.Need-returns
 unfolding lastQuantity
 returns c = rw (sym (c .before .steps-allowed .ensures) ∙ not-true _ (c .if1 .taken))
@@ -31,4 +28,11 @@ returns-2 c = rw (sym (c .before .before .steps-allowed .ensures) ∙ not-false 
 
 pub last-quantity-spec : {M : Type 1} → statement M
 last-quantity-spec =
-    tie.close (tie.spec steps-allowed-requires returns sub-last mul-result element-copy-out-result returns-2)
+    tie.close
+    (tie.spec
+    (λ c κs. search needs)
+    returns
+    sub-last
+    mul-result
+    element-copy-out-result
+    returns-2)

@@ -8,9 +8,6 @@ use Rattle.offer.proofs.Steps.{allowed}
 use Rattle.offer.proofs.offer_holds.Statement.{statement}
 use Rattle.offer.proofs.offer_holds.Tie as tie
 
-steps-allowed-requires : tie.Need-steps-allowed-requires
-steps-allowed-requires c κs = search needs
-
 returns : tie.Need-returns
 unfolding offerHolds
 returns c = rw (sym (c .before .steps-allowed .ensures) ∙ not-true _ (c .if1 .taken))
@@ -33,4 +30,11 @@ returns-3 c =
 
 pub offer-holds-spec : {M : Type 1} → statement M
 offer-holds-spec =
-    tie.close (tie.spec steps-allowed-requires returns steps-in-range-requires returns-2 steps-in-order-requires returns-3)
+    tie.close
+    (tie.spec
+    (λ c κs. search needs)
+    returns
+    steps-in-range-requires
+    returns-2
+    steps-in-order-requires
+    returns-3)

@@ -18,56 +18,14 @@ Inv-loop offer last s₀ s = (s ≤ last) × (every s (stepInOrder offer) ≡ tr
 abbrev μ-loop : tie.MeasureT-loop
 μ-loop offer last s₀ s = last - s
 
-sub-last : tie.Need-sub-last Inv-loop μ-loop
-sub-last c = search needs
-
 loop-holds : tie.Need-loop-holds Inv-loop μ-loop
 unfolding every
 loop-holds c = (omega arith, refl)
-
-mul-quantity : tie.Need-mul-quantity Inv-loop μ-loop
-mul-quantity c = search needs
-
-element-copy-out-quantity : tie.Need-element-copy-out-quantity Inv-loop μ-loop
-element-copy-out-quantity c = search needs
-
-mul-price : tie.Need-mul-price Inv-loop μ-loop
-mul-price c = search needs
-
-element-copy-out-price : tie.Need-element-copy-out-price Inv-loop μ-loop
-element-copy-out-price c = search needs
-
-add-next-quantity : tie.Need-add-next-quantity Inv-loop μ-loop
-add-next-quantity c = search needs
-
-mul-next-quantity : tie.Need-mul-next-quantity Inv-loop μ-loop
-mul-next-quantity c = search needs
-
-element-copy-out-next-quantity : tie.Need-element-copy-out-next-quantity Inv-loop μ-loop
-element-copy-out-next-quantity c = search needs
-
-add-next-price : tie.Need-add-next-price Inv-loop μ-loop
-add-next-price c = search needs
-
-mul-next-price : tie.Need-mul-next-price Inv-loop μ-loop
-mul-next-price c = search needs
-
-element-copy-out-next-price : tie.Need-element-copy-out-next-price Inv-loop μ-loop
-element-copy-out-next-price c = search needs
-
-in-order-requires : tie.Need-in-order-requires Inv-loop μ-loop
-in-order-requires c κs = search needs
 
 returns : tie.Need-returns Inv-loop μ-loop
 returns c =
     let o = c .before .before .before .before .before .before .before .before .args .t1 in
     sym (every-fails (o .steps - 1) (c .before .before .before .before .before .before .before .loop .s) (stepInOrder o) (c .before .before .before .before .before .before .loop-test .taken) (sym (c .before .in-order .ensures) ∙ not-true _ (c .if1 .taken)))
-
-add-s : tie.Need-add-s Inv-loop μ-loop
-add-s c = search needs
-
-loop-less : tie.Need-loop-less Inv-loop μ-loop
-loop-less c = search needs
 
 loop-again : tie.Need-loop-again Inv-loop μ-loop
 loop-again c =
@@ -86,21 +44,12 @@ steps-in-order-spec =
     (tie.spec
     Inv-loop
     μ-loop
-    sub-last
+    (λ c. search needs)
     loop-holds
-    mul-quantity
-    element-copy-out-quantity
-    mul-price
-    element-copy-out-price
-    add-next-quantity
-    mul-next-quantity
-    element-copy-out-next-quantity
-    add-next-price
-    mul-next-price
-    element-copy-out-next-price
-    in-order-requires
+    (λ c. search needs) (λ c. search needs) (λ c. search needs) (λ c. search needs) (λ c. search needs)
+    (λ c. search needs) (λ c. search needs) (λ c. search needs) (λ c. search needs) (λ c. search needs)
+    (λ c κs. search needs)
     returns
-    add-s
-    loop-less
+    (λ c. search needs) (λ c. search needs)
     loop-again
     returns-2)

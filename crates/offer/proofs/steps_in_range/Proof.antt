@@ -22,31 +22,10 @@ loop-holds : tie.Need-loop-holds Inv-loop μ-loop
 unfolding every
 loop-holds c = (omega arith, refl)
 
-mul-quantity : tie.Need-mul-quantity Inv-loop μ-loop
-mul-quantity c = search needs
-
-element-copy-out-quantity : tie.Need-element-copy-out-quantity Inv-loop μ-loop
-element-copy-out-quantity c = search needs
-
-mul-price : tie.Need-mul-price Inv-loop μ-loop
-mul-price c = search needs
-
-element-copy-out-price : tie.Need-element-copy-out-price Inv-loop μ-loop
-element-copy-out-price c = search needs
-
-in-range-requires : tie.Need-in-range-requires Inv-loop μ-loop
-in-range-requires c κs = search needs
-
 returns : tie.Need-returns Inv-loop μ-loop
 returns c =
     let o = c .before .before .before .before .before .before .args .t1 in
     sym (every-fails (o .steps) (c .before .before .before .before .before .loop .s) (stepInRange o) (c .before .before .before .before .loop-test .taken) (sym (c .before .in-range .ensures) ∙ not-true _ (c .if1 .taken)))
-
-add-s : tie.Need-add-s Inv-loop μ-loop
-add-s c = search needs
-
-loop-less : tie.Need-loop-less Inv-loop μ-loop
-loop-less c = search needs
 
 loop-again : tie.Need-loop-again Inv-loop μ-loop
 loop-again c =
@@ -66,13 +45,8 @@ steps-in-range-spec =
     Inv-loop
     μ-loop
     loop-holds
-    mul-quantity
-    element-copy-out-quantity
-    mul-price
-    element-copy-out-price
-    in-range-requires
+    (λ c. search needs) (λ c. search needs) (λ c. search needs) (λ c. search needs) (λ c κs. search needs)
     returns
-    add-s
-    loop-less
+    (λ c. search needs) (λ c. search needs)
     loop-again
     returns-2)

@@ -7,15 +7,9 @@ use borrow.Author.Needs.{needs}
 use Rattle.postings.proofs.covered.Statement.{statement}
 use Rattle.postings.proofs.covered.Tie as tie
 
-least-requires : tie.Need-least-requires
-least-requires c κs = search needs
-
-least-requires-2 : tie.Need-least-requires-2
-least-requires-2 c κs = search needs
-
 returns : tie.Need-returns
 unfolding coveredBy
 returns c = c .least2 .ensures ∙ ap (λ (n : ℕ). min n mostPostings) (c .before .least .ensures)
 
 pub covered-spec : {M : Type 1} → statement M
-covered-spec = tie.close (tie.spec least-requires least-requires-2 returns)
+covered-spec = tie.close (tie.spec (λ c κs. search needs) (λ c κs. search needs) returns)

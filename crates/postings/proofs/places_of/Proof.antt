@@ -24,9 +24,6 @@ abbrev μ-loop : tie.MeasureT-loop
 loop-holds : tie.Need-loop-holds Inv-loop μ-loop
 loop-holds c = (omega arith, sym (members-zero (c .args .units)), placed-none (c .args .units))
 
-member-at-requires : tie.Need-member-at-requires Inv-loop μ-loop
-member-at-requires c κs = search needs
-
 mul-place : tie.Need-mul-place Inv-loop μ-loop
 mul-place c =
     omega (arith, members-le (c .before .before .before .before .args .units) (c .before .before .before .loop .p))
@@ -38,12 +35,6 @@ array-write-place c =
 add-m : tie.Need-add-m Inv-loop μ-loop
 add-m c =
     omega (arith, members-le (c .before .before .before .before .args .units) (c .before .before .before .loop .p))
-
-add-p : tie.Need-add-p Inv-loop μ-loop
-add-p c = search needs
-
-loop-less : tie.Need-loop-less Inv-loop μ-loop
-loop-less c = search needs
 
 loop-again : tie.Need-loop-again Inv-loop μ-loop
 loop-again c =
@@ -78,11 +69,10 @@ places-of-spec =
     Inv-loop
     μ-loop
     loop-holds
-    member-at-requires
+    (λ c κs. search needs)
     mul-place
     array-write-place
     add-m
-    add-p
-    loop-less
+    (λ c. search needs) (λ c. search needs)
     loop-again
     returns)

@@ -32,12 +32,6 @@ reached c =
     (c .before .before .before .before .places-of .ensures) (ap (λ (n : ℕ). items * n) (c .before .before .before .unit-count .ensures))
     (start .pre .1) (c .loop-test .taken)
 
-places-of-requires : tie.Need-places-of-requires Inv-loop μ-loop
-places-of-requires c κs = search needs
-
-unit-count-requires : tie.Need-unit-count-requires Inv-loop μ-loop
-unit-count-requires c κs = search needs
-
 mul-size : tie.Need-mul-size Inv-loop μ-loop
 mul-size c = omega (arith, size-most (c .before .before .before .args .units) (omega (arith, c .before .before .before .pre .0)))
 
@@ -46,9 +40,6 @@ mul-n c =
     let start = c .before .before .before in
     let most : items * c .unit-count .result ≤ planRows = omega (arith, size-most (start .args .units) (omega (arith, start .pre .0))) in
     omega (arith, rows-most (items * c .unit-count .result) (start .args .filled) most (start .pre .1))
-
-no-posting-requires : tie.Need-no-posting-requires Inv-loop μ-loop
-no-posting-requires c κs = search needs
 
 loop-holds : tie.Need-loop-holds Inv-loop μ-loop
 unfolding tabulate
@@ -135,11 +126,10 @@ rows-of-spec =
     (tie.spec
     Inv-loop
     μ-loop
-    places-of-requires
-    unit-count-requires
+    (λ c κs. search needs) (λ c κs. search needs)
     mul-size
     mul-n
-    no-posting-requires
+    (λ c κs. search needs)
     loop-holds
     div-e
     rem-w

@@ -15,20 +15,11 @@ use Rattle.postings.proofs.scanned_with.Tie as tie
 returns : tie.Need-returns
 returns c = sym (step-bad (c .before .before .before .before .args .s) (c .before .before .before .before .args .x) (c .before .before .before .before .args .unit) (c .before .before .before .before .args .item) (not-true _ (c .if1 .taken)))
 
-within-requires : tie.Need-within-requires
-within-requires c κs = search needs
-
 returns-2 : tie.Need-returns-2
 returns-2 c = rw (back (c .before .before .before .before .before .before .args .s .sum) (c .before .before .before .before .struct-told2 .given .1 .0 .1)) (sym (step-beyond (c .before .before .before .before .before .before .args .s) (c .before .before .before .before .before .before .args .x) (c .before .before .before .before .before .before .args .unit) (c .before .before .before .before .before .before .args .item) (not-false _ (c .before .before .if1 .left)) (rw (back (c .before .before .before .before .before .before .args .x .amount) (c .before .before .before .before .before .struct-told .given .1 .1 .1 .0 .1)) at (sym (c .before .within .ensures)) ∙ not-true _ (c .if2 .taken))))
 
-is-of-requires : tie.Need-is-of-requires
-is-of-requires c κs = search needs
-
 returns-3 : tie.Need-returns-3
 returns-3 c = sym (step-other (c .before .before .before .before .before .before .before .before .args .s) (c .before .before .before .before .before .before .before .before .args .x) (c .before .before .before .before .before .before .before .before .args .unit) (c .before .before .before .before .before .before .before .before .args .item) (not-false _ (c .before .before .before .before .if1 .left)) (rw (back (c .before .before .before .before .before .before .before .before .args .x .amount) (c .before .before .before .before .before .before .before .struct-told .given .1 .1 .1 .0 .1)) at (sym (c .before .before .before .within .ensures)) ∙ not-false _ (c .before .before .if2 .left)) (sym (c .before .is-of .ensures) ∙ not-true _ (c .if3 .taken)))
-
-within-requires-2 : tie.Need-within-requires-2
-within-requires-2 c κs = search needs
 
 returns-4 : tie.Need-returns-4
 returns-4 c = sym (step-full (c .before .before .before .before .before .before .before .before .before .before .args .s) (c .before .before .before .before .before .before .before .before .before .before .args .x) (c .before .before .before .before .before .before .before .before .before .before .args .unit) (c .before .before .before .before .before .before .before .before .before .before .args .item) (not-false _ (c .before .before .before .before .before .before .if1 .left)) (rw (back (c .before .before .before .before .before .before .before .before .before .before .args .x .amount) (c .before .before .before .before .before .before .before .before .before .struct-told .given .1 .1 .1 .0 .1)) at (sym (c .before .before .before .before .before .within .ensures)) ∙ not-false _ (c .before .before .before .before .if2 .left)) (sym (c .before .before .before .is-of .ensures) ∙ not-false _ (c .before .before .if3 .left)) (rw (back (c .before .before .before .before .before .before .before .before .before .before .args .s .sum) (c .before .before .before .before .before .before .before .before .struct-told2 .given .1 .0 .1)) at (sym (c .before .within2 .ensures)) ∙ not-true _ (c .if4 .taken)))
@@ -49,11 +40,11 @@ scanned-with-spec =
     tie.close
     (tie.spec
     returns
-    within-requires
+    (λ c κs. search needs)
     returns-2
-    is-of-requires
+    (λ c κs. search needs)
     returns-3
-    within-requires-2
+    (λ c κs. search needs)
     returns-4
     add-t9
     returns-5)

@@ -5,12 +5,9 @@ use borrow.Author.Needs.{needs}
 use Rattle.record.proofs.end_row.Statement.{statement}
 use Rattle.record.proofs.end_row.Tie as tie
 
-word-row-requires : tie.Need-word-row-requires
-word-row-requires c κs = search needs
-
 returns : tie.Need-returns
 unfolding endRow
 returns c = c .word-row .ensures
 
 pub end-row-spec : {M : Type 1} → statement M
-end-row-spec = tie.close (tie.spec word-row-requires returns)
+end-row-spec = tie.close (tie.spec (λ c κs. search needs) returns)

@@ -9,22 +9,13 @@ use borrow.Author.Needs.{needs}
 use Rattle.record.proofs.head_row.Statement.{statement}
 use Rattle.record.proofs.head_row.Tie as tie
 
-number-row-requires : tie.Need-number-row-requires
-number-row-requires c κs = search needs
-
 returns : tie.Need-returns
 unfolding headRows
 returns c = c .number-row .ensures ∙ ap (λ (n : ℕ). getD headRows n endRow) (sym (c .before .before .before .if1 .taken))
 
-blank-row-requires : tie.Need-blank-row-requires
-blank-row-requires c κs = search needs
-
 returns-2 : tie.Need-returns-2
 unfolding headRows
 returns-2 c = c .blank-row .ensures ∙ ap (λ (n : ℕ). getD headRows n endRow) (sym (c .before .before .before .if2 .taken))
-
-blank-row-requires-2 : tie.Need-blank-row-requires-2
-blank-row-requires-2 c κs = search needs
 
 returns-3 : tie.Need-returns-3
 unfolding headRows
@@ -34,9 +25,9 @@ pub head-row-spec : {M : Type 1} → statement M
 head-row-spec =
     tie.close
     (tie.spec
-    number-row-requires
+    (λ c κs. search needs)
     returns
-    blank-row-requires
+    (λ c κs. search needs)
     returns-2
-    blank-row-requires-2
+    (λ c κs. search needs)
     returns-3)

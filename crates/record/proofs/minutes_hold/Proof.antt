@@ -23,18 +23,6 @@ loop-holds : tie.Need-loop-holds Inv-loop μ-loop
 unfolding every
 loop-holds c = (omega arith, refl)
 
-member-at-requires : tie.Need-member-at-requires Inv-loop μ-loop
-member-at-requires c κs = search needs
-
-mul-u : tie.Need-mul-u Inv-loop μ-loop
-mul-u c = search needs
-
-element-copy-out-u : tie.Need-element-copy-out-u Inv-loop μ-loop
-element-copy-out-u c = search needs
-
-unit-minutes-requires : tie.Need-unit-minutes-requires Inv-loop μ-loop
-unit-minutes-requires c κs = search needs
-
 returns : tie.Need-returns Inv-loop μ-loop
 unfolding minutesHold
 returns c =
@@ -42,12 +30,6 @@ returns c =
     let g = c .before .before .before .before .before .before .before .args in
     sym (every-fails 8 (l .k) (placeMinutes (g .t1) (g .units)) (omega arith)
     (simp (sym (c .before .before .before .before .member-at .ensures) ∙ c .before .before .before .if1 .taken) (sym (c .before .unit-minutes .ensures) ∙ not-true _ (c .if2 .taken))))
-
-add-k : tie.Need-add-k Inv-loop μ-loop
-add-k c = search needs
-
-loop-less : tie.Need-loop-less Inv-loop μ-loop
-loop-less c = search needs
 
 loop-again : tie.Need-loop-again Inv-loop μ-loop
 loop-again c =
@@ -74,12 +56,8 @@ minutes-hold-spec =
     Inv-loop
     μ-loop
     loop-holds
-    member-at-requires
-    mul-u
-    element-copy-out-u
-    unit-minutes-requires
+    (λ c κs. search needs) (λ c. search needs) (λ c. search needs) (λ c κs. search needs)
     returns
-    add-k
-    loop-less
+    (λ c. search needs) (λ c. search needs)
     loop-again
     returns-2)

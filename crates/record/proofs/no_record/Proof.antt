@@ -8,11 +8,8 @@ use borrow.Author.Needs.{needs}
 use Rattle.record.proofs.no_record.Statement.{statement}
 use Rattle.record.proofs.no_record.Tie as tie
 
-no-unit-requires : tie.Need-no-unit-requires
-no-unit-requires c κs = search needs
-
 returns : tie.Need-returns
 returns c = ap {B = Record} (λ (u : UnitRecord). record { hour = 0; net = record { 0 = 0 }; reverse = record { 0 = 0 }; unit = replicate 8 u }) (c .no-unit .ensures)
 
 pub no-record-spec : {M : Type 1} → statement M
-no-record-spec = tie.close (tie.spec no-unit-requires returns)
+no-record-spec = tie.close (tie.spec (λ c κs. search needs) returns)

@@ -8,11 +8,8 @@ use borrow.Author.Needs.{needs}
 use Rattle.record.proofs.no_unit.Statement.{statement}
 use Rattle.record.proofs.no_unit.Tie as tie
 
-no-span-requires : tie.Need-no-span-requires
-no-span-requires c κs = search needs
-
 returns : tie.Need-returns
 returns c = ap (λ (s : Span). emptyUnit (replicate 6 s)) (c .no-span .ensures)
 
 pub no-unit-spec : {M : Type 1} → statement M
-no-unit-spec = tie.close (tie.spec no-span-requires returns)
+no-unit-spec = tie.close (tie.spec (λ c κs. search needs) returns)

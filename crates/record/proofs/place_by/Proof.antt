@@ -11,26 +11,11 @@ use borrow.Author.Needs.{needs}
 use Rattle.record.proofs.place_by.Statement.{statement}
 use Rattle.record.proofs.place_by.Tie as tie
 
-member-at-requires : tie.Need-member-at-requires
-member-at-requires c κs = search needs
-
-mul-m : tie.Need-mul-m
-mul-m c = search needs
-
-array-copy-out-m : tie.Need-array-copy-out-m
-array-copy-out-m c = search needs
-
-block-of-requires : tie.Need-block-of-requires
-block-of-requires c κs = search needs
-
 unit-by-requires : tie.Need-unit-by-requires
 unit-by-requires c κs = omega (arith, c .block-of .ensures, members-le (c .before .before .before .before .before .args .units) (c .before .before .before .before .before .args .k))
 
 returns : tie.Need-returns
 returns c = simp (sym (c .before .before .before .before .member-at .ensures) ∙ c .before .before .before .if1 .taken) (c .unit-by .ensures ∙ ap (λ (j : ℕ). unitBy (lineIn (c .before .before .before .before .before .before .args .cells .now)) j (getD (c .before .before .before .before .before .before .args .t3) (c .before .before .before .before .before .before .args .k) (record { 0 = 0 }))) (c .before .block-of .ensures))
-
-no-unit-requires : tie.Need-no-unit-requires
-no-unit-requires c κs = search needs
 
 returns-2 : tie.Need-returns-2
 returns-2 c = simp (sym (c .before .before .member-at .ensures) ∙ c .before .if1 .left) (c .no-unit .ensures)
@@ -39,11 +24,8 @@ pub place-by-spec : {M : Type 1} → statement M
 place-by-spec =
     tie.close
     (tie.spec
-    member-at-requires
-    mul-m
-    array-copy-out-m
-    block-of-requires
+    (λ c κs. search needs) (λ c. search needs) (λ c. search needs) (λ c κs. search needs)
     unit-by-requires
     returns
-    no-unit-requires
+    (λ c κs. search needs)
     returns-2)

@@ -26,18 +26,6 @@ Inv-loop text n cells₀ due c₀ i₀ cells c i =
 abbrev μ-loop : tie.MeasureT-loop
 μ-loop text n cells₀ due c₀ i₀ cells c i = due - i
 
-mul-due : tie.Need-mul-due Inv-loop μ-loop
-mul-due c = search needs
-
-add-due : tie.Need-add-due Inv-loop μ-loop
-add-due c = search needs
-
-add-due-2 : tie.Need-add-due-2 Inv-loop μ-loop
-add-due-2 c = search needs
-
-start-requires : tie.Need-start-requires Inv-loop μ-loop
-start-requires c κs = search needs
-
 loop-holds : tie.Need-loop-holds Inv-loop μ-loop
 unfolding readBy
 loop-holds c =
@@ -49,19 +37,10 @@ loop-holds c =
       λ z. rw none (c .before .before .before .pre .1),
     )
 
-row-at-requires : tie.Need-row-at-requires Inv-loop μ-loop
-row-at-requires c κs = search needs
-
 read-line-requires : tie.Need-read-line-requires Inv-loop μ-loop
 read-line-requires c κs =
     let l = c .before .before .before .loop in
     (omega (arith, l .inv .0, l .inv .1, c .before .before .loop-test .taken, c .before .before .before .before .before .before .before .pre .0), l .inv .4)
-
-add-i : tie.Need-add-i Inv-loop μ-loop
-add-i c = search needs
-
-loop-less : tie.Need-loop-less Inv-loop μ-loop
-loop-less c = search needs
 
 loop-again : tie.Need-loop-again Inv-loop μ-loop
 loop-again c =
@@ -77,9 +56,6 @@ loop-again c =
       r .ensures .1 .1,
     )
 
-same-length : tie.Need-same-length Inv-loop μ-loop
-same-length c = search needs
-
 returns : tie.Need-returns Inv-loop μ-loop
 unfolding readLines
 returns c =
@@ -94,15 +70,11 @@ read-lines-spec =
     (tie.spec
     Inv-loop
     μ-loop
-    mul-due
-    add-due
-    add-due-2
-    start-requires
+    (λ c. search needs) (λ c. search needs) (λ c. search needs) (λ c κs. search needs)
     loop-holds
-    row-at-requires
+    (λ c κs. search needs)
     read-line-requires
-    add-i
-    loop-less
+    (λ c. search needs) (λ c. search needs)
     loop-again
-    same-length
+    (λ c. search needs)
     returns)

@@ -42,23 +42,11 @@ fit c =
 room : (c : tie.After-read-lines) → 2100 ≤ length (c .read-lines .last .1 .1 .0)
 room c = omega (arith, c .read-lines .kept .1 .1 .0)
 
-bad-start-requires : tie.Need-bad-start-requires
-bad-start-requires c κs = search needs
-
-text-refusal-requires : tie.Need-text-refusal-requires
-text-refusal-requires c κs = search needs
-
-no-record-requires : tie.Need-no-record-requires
-no-record-requires c κs = search needs
-
 returns : tie.Need-returns
 returns c =
     let g = c .before .before .before .before .before .args in
     (λ i. record { answer = Refused (c .before .text-refusal .ensures i); read = c .no-record .ensures i })
     ∙ sym (start-bad (g .text .now) (g .start) (g .units) (g .monthly) (sym (c .before .before .before .bad-start .ensures) ∙ c .before .before .if1 .taken))
-
-unit-count-requires : tie.Need-unit-count-requires
-unit-count-requires c κs = search needs
 
 sub-read-lines : tie.Need-sub-read-lines
 sub-read-lines c = omega (arith, within (c .before))
@@ -66,23 +54,11 @@ sub-read-lines c = omega (arith, within (c .before))
 part-read-lines-start : tie.Need-part-read-lines-start
 part-read-lines-start c = omega (arith, within (c .before))
 
-part-read-lines-end : tie.Need-part-read-lines-end
-part-read-lines-end c = search needs
-
-slice-aggregate-read-lines : tie.Need-slice-aggregate-read-lines
-slice-aggregate-read-lines c = search needs
-
 read-lines-requires : tie.Need-read-lines-requires
 read-lines-requires c κs = (omega (arith, c .before .before .unit-count .ensures, ones-le 64 (c .before .before .before .before .before .before .args .units) (c .before .before .before .before .before .before .fits .units .fits)), zeros-blank 2100)
 
 answer-of-requires : tie.Need-answer-of-requires
 answer-of-requires c κs = fit (c .before .before .before)
-
-slice-aggregate-record-by : tie.Need-slice-aggregate-record-by
-slice-aggregate-record-by c = search needs
-
-record-by-requires : tie.Need-record-by-requires
-record-by-requires c κs = search needs
 
 returns-2 : tie.Need-returns-2
 returns-2 c =
@@ -101,9 +77,6 @@ returns-2 c =
 answer-of-requires-2 : tie.Need-answer-of-requires-2
 answer-of-requires-2 c κs = fit (c .before .before .before)
 
-no-record-requires-2 : tie.Need-no-record-requires-2
-no-record-requires-2 c κs = search needs
-
 returns-3 : tie.Need-returns-3
 returns-3 c =
     let h = c .before .before .before .before .before in
@@ -119,20 +92,16 @@ pub read-record-spec : {M : Type 1} → statement M
 read-record-spec =
     tie.close
     (tie.spec
-    bad-start-requires
-    text-refusal-requires
-    no-record-requires
+    (λ c κs. search needs) (λ c κs. search needs) (λ c κs. search needs)
     returns
-    unit-count-requires
+    (λ c κs. search needs)
     sub-read-lines
     part-read-lines-start
-    part-read-lines-end
-    slice-aggregate-read-lines
+    (λ c. search needs) (λ c. search needs)
     read-lines-requires
     answer-of-requires
-    slice-aggregate-record-by
-    record-by-requires
+    (λ c. search needs) (λ c κs. search needs)
     returns-2
     answer-of-requires-2
-    no-record-requires-2
+    (λ c κs. search needs)
     returns-3)

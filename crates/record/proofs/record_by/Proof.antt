@@ -18,27 +18,9 @@ Inv-loop cells units monthly unit₀ k₀ unit k = (k ≤ 8) × (length unit ≡
 abbrev μ-loop : tie.MeasureT-loop
 μ-loop cells units monthly unit₀ k₀ unit k = 8 - k
 
-no-unit-requires : tie.Need-no-unit-requires Inv-loop μ-loop
-no-unit-requires c κs = search needs
-
 loop-holds : tie.Need-loop-holds Inv-loop μ-loop
 unfolding tabulate
 loop-holds c = (omega arith, refl, refl)
-
-place-by-requires : tie.Need-place-by-requires Inv-loop μ-loop
-place-by-requires c κs = search needs
-
-mul-unit : tie.Need-mul-unit Inv-loop μ-loop
-mul-unit c = search needs
-
-array-set-from-unit : tie.Need-array-set-from-unit Inv-loop μ-loop
-array-set-from-unit c = search needs
-
-add-k : tie.Need-add-k Inv-loop μ-loop
-add-k c = search needs
-
-loop-less : tie.Need-loop-less Inv-loop μ-loop
-loop-less c = search needs
 
 loop-again : tie.Need-loop-again Inv-loop μ-loop
 loop-again c =
@@ -48,15 +30,6 @@ loop-again c =
       simp length-set (l .inv .1),
       filled-next (placeBy (lineIn (g .cells .now)) (g .units) (g .monthly)) (l .unit) (l .k) _ (omega arith) (l .inv .2) (c .place-by .ensures),
     )
-
-number-at-requires : tie.Need-number-at-requires Inv-loop μ-loop
-number-at-requires c κs = search needs
-
-value-or-requires : tie.Need-value-or-requires Inv-loop μ-loop
-value-or-requires c κs = search needs
-
-value-or-requires-2 : tie.Need-value-or-requires-2 Inv-loop μ-loop
-value-or-requires-2 c κs = search needs
 
 returns : tie.Need-returns Inv-loop μ-loop
 unfolding recordBy
@@ -75,15 +48,9 @@ record-by-spec =
     (tie.spec
     Inv-loop
     μ-loop
-    no-unit-requires
+    (λ c κs. search needs)
     loop-holds
-    place-by-requires
-    mul-unit
-    array-set-from-unit
-    add-k
-    loop-less
+    (λ c κs. search needs) (λ c. search needs) (λ c. search needs) (λ c. search needs) (λ c. search needs)
     loop-again
-    number-at-requires
-    value-or-requires
-    value-or-requires-2
+    (λ c κs. search needs) (λ c κs. search needs) (λ c κs. search needs)
     returns)

@@ -18,27 +18,9 @@ Inv-loop cells k declared span₀ i₀ span i = (i ≤ 6) × (length span ≡ 6)
 abbrev μ-loop : tie.MeasureT-loop
 μ-loop cells k declared span₀ i₀ span i = 6 - i
 
-no-span-requires : tie.Need-no-span-requires Inv-loop μ-loop
-no-span-requires c κs = search needs
-
 loop-holds : tie.Need-loop-holds Inv-loop μ-loop
 unfolding tabulate
 loop-holds c = (omega arith, refl, refl)
-
-span-by-requires : tie.Need-span-by-requires Inv-loop μ-loop
-span-by-requires c κs = search needs
-
-mul-span : tie.Need-mul-span Inv-loop μ-loop
-mul-span c = search needs
-
-array-set-from-span : tie.Need-array-set-from-span Inv-loop μ-loop
-array-set-from-span c = search needs
-
-add-i : tie.Need-add-i Inv-loop μ-loop
-add-i c = search needs
-
-loop-less : tie.Need-loop-less Inv-loop μ-loop
-loop-less c = search needs
 
 loop-again : tie.Need-loop-again Inv-loop μ-loop
 loop-again c =
@@ -62,12 +44,8 @@ span-list-spec =
     (tie.spec
     Inv-loop
     μ-loop
-    no-span-requires
+    (λ c κs. search needs)
     loop-holds
-    span-by-requires
-    mul-span
-    array-set-from-span
-    add-i
-    loop-less
+    (λ c κs. search needs) (λ c. search needs) (λ c. search needs) (λ c. search needs) (λ c. search needs)
     loop-again
     returns)

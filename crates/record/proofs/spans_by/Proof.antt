@@ -8,9 +8,6 @@ use borrow.Author.Needs.{needs}
 use Rattle.record.proofs.spans_by.Statement.{statement}
 use Rattle.record.proofs.spans_by.Tie as tie
 
-count-at-requires : tie.Need-count-at-requires
-count-at-requires c κs = search needs
-
 returns : tie.Need-returns
 unfolding spansBy
 returns c = simp (eq-eqb _ _ (sym (c .before .count-at .ensures) ∙ c .if1 .taken))
@@ -20,4 +17,4 @@ unfolding spansBy
 returns-2 c = simp (ne-eqb _ _ (λ e. c .if1 .left (c .before .count-at .ensures ∙ e))) (ap (λ (n : ℕ). n / 4) (c .before .count-at .ensures))
 
 pub spans-by-spec : {M : Type 1} → statement M
-spans-by-spec = tie.close (tie.spec count-at-requires returns returns-2)
+spans-by-spec = tie.close (tie.spec (λ c κs. search needs) returns returns-2)

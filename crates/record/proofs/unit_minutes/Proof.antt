@@ -23,15 +23,6 @@ loop-holds : tie.Need-loop-holds Inv-loop μ-loop
 unfolding sum
 loop-holds c = (omega arith, ⊎-elim (λ w. omega arith) (λ w. omega arith) (c .if1 .came), omega arith, refl)
 
-mul-s : tie.Need-mul-s Inv-loop μ-loop
-mul-s c = search needs
-
-element-copy-out-s : tie.Need-element-copy-out-s Inv-loop μ-loop
-element-copy-out-s c = search needs
-
-sub-if2 : tie.Need-sub-if2 Inv-loop μ-loop
-sub-if2 c = search needs
-
 returns : tie.Need-returns Inv-loop μ-loop
 unfolding minutesOf
 returns c =
@@ -42,12 +33,6 @@ returns c =
 
 add-total : tie.Need-add-total Inv-loop μ-loop
 add-total c = omega arith
-
-add-i : tie.Need-add-i Inv-loop μ-loop
-add-i c = search needs
-
-loop-less : tie.Need-loop-less Inv-loop μ-loop
-loop-less c = search needs
 
 loop-again : tie.Need-loop-again Inv-loop μ-loop
 loop-again c =
@@ -70,12 +55,9 @@ unit-minutes-spec =
     Inv-loop
     μ-loop
     loop-holds
-    mul-s
-    element-copy-out-s
-    sub-if2
+    (λ c. search needs) (λ c. search needs) (λ c. search needs)
     returns
     add-total
-    add-i
-    loop-less
+    (λ c. search needs) (λ c. search needs)
     loop-again
     returns-2)

@@ -9,64 +9,37 @@ use borrow.Author.Needs.{needs}
 use Rattle.record.proofs.unit_row.Statement.{statement}
 use Rattle.record.proofs.unit_row.Tie as tie
 
-blank-row-requires : tie.Need-blank-row-requires
-blank-row-requires c κs = search needs
-
 returns : tie.Need-returns
 unfolding unitRows
 returns c = c .blank-row .ensures ∙ ap (λ (n : ℕ). getD unitRows n endRow) (sym (c .before .before .before .if1 .taken))
-
-blank-row-requires-2 : tie.Need-blank-row-requires-2
-blank-row-requires-2 c κs = search needs
 
 returns-2 : tie.Need-returns-2
 unfolding unitRows
 returns-2 c = c .blank-row2 .ensures ∙ ap (λ (n : ℕ). getD unitRows n endRow) (sym (c .before .before .before .if2 .taken))
 
-blank-row-requires-3 : tie.Need-blank-row-requires-3
-blank-row-requires-3 c κs = search needs
-
 returns-3 : tie.Need-returns-3
 unfolding unitRows
 returns-3 c = c .blank-row3 .ensures ∙ ap (λ (n : ℕ). getD unitRows n endRow) (sym (c .before .before .before .if3 .taken))
-
-blank-row-requires-4 : tie.Need-blank-row-requires-4
-blank-row-requires-4 c κs = search needs
 
 returns-4 : tie.Need-returns-4
 unfolding unitRows
 returns-4 c = c .blank-row4 .ensures ∙ ap (λ (n : ℕ). getD unitRows n endRow) (sym (c .before .before .before .if4 .taken))
 
-blank-row-requires-5 : tie.Need-blank-row-requires-5
-blank-row-requires-5 c κs = search needs
-
 returns-5 : tie.Need-returns-5
 unfolding unitRows
 returns-5 c = c .blank-row5 .ensures ∙ ap (λ (n : ℕ). getD unitRows n endRow) (sym (c .before .before .before .if5 .taken))
-
-blank-row-requires-6 : tie.Need-blank-row-requires-6
-blank-row-requires-6 c κs = search needs
 
 returns-6 : tie.Need-returns-6
 unfolding unitRows
 returns-6 c = c .blank-row6 .ensures ∙ ap (λ (n : ℕ). getD unitRows n endRow) (sym (c .before .before .before .if6 .taken))
 
-blank-row-requires-7 : tie.Need-blank-row-requires-7
-blank-row-requires-7 c κs = search needs
-
 returns-7 : tie.Need-returns-7
 unfolding unitRows
 returns-7 c = c .blank-row7 .ensures ∙ ap (λ (n : ℕ). getD unitRows n endRow) (sym (c .before .before .before .if7 .taken))
 
-blank-row-requires-8 : tie.Need-blank-row-requires-8
-blank-row-requires-8 c κs = search needs
-
 returns-8 : tie.Need-returns-8
 unfolding unitRows
 returns-8 c = c .blank-row8 .ensures ∙ ap (λ (n : ℕ). getD unitRows n endRow) (sym (c .before .before .before .if8 .taken))
-
-spans-row-requires : tie.Need-spans-row-requires
-spans-row-requires c κs = search needs
 
 returns-9 : tie.Need-returns-9
 unfolding unitRows
@@ -76,21 +49,21 @@ pub unit-row-spec : {M : Type 1} → statement M
 unit-row-spec =
     tie.close
     (tie.spec
-    blank-row-requires
+    (λ c κs. search needs)
     returns
-    blank-row-requires-2
+    (λ c κs. search needs)
     returns-2
-    blank-row-requires-3
+    (λ c κs. search needs)
     returns-3
-    blank-row-requires-4
+    (λ c κs. search needs)
     returns-4
-    blank-row-requires-5
+    (λ c κs. search needs)
     returns-5
-    blank-row-requires-6
+    (λ c κs. search needs)
     returns-6
-    blank-row-requires-7
+    (λ c κs. search needs)
     returns-7
-    blank-row-requires-8
+    (λ c κs. search needs)
     returns-8
-    spans-row-requires
+    (λ c κs. search needs)
     returns-9)

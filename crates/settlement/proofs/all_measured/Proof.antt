@@ -25,26 +25,11 @@ loop-holds : tie.Need-loop-holds Inv-loop μ-loop
 unfolding every
 loop-holds c = (omega arith, refl)
 
-mul-u : tie.Need-mul-u Inv-loop μ-loop
-mul-u c = search needs
-
-element-copy-out-u : tie.Need-element-copy-out-u Inv-loop μ-loop
-element-copy-out-u c = search needs
-
-measured-at-requires : tie.Need-measured-at-requires Inv-loop μ-loop
-measured-at-requires c κs = search needs
-
 returns : tie.Need-returns Inv-loop μ-loop
 unfolding allMeasured
 returns c =
     let a = c .before .before .before .before .before .args in
     sym (every-fails 8 (c .before .before .before .before .loop .k) (λ i. cond (memberAt (a .units) i) (unitAt (a .t1) i .measured) true) (omega arith) (sym (c .before .measured-at .ensures) ∙ not-true _ (c .if1 .taken)))
-
-add-k : tie.Need-add-k Inv-loop μ-loop
-add-k c = search needs
-
-loop-less : tie.Need-loop-less Inv-loop μ-loop
-loop-less c = search needs
 
 loop-again : tie.Need-loop-again Inv-loop μ-loop
 loop-again c =
@@ -67,11 +52,8 @@ all-measured-spec =
     Inv-loop
     μ-loop
     loop-holds
-    mul-u
-    element-copy-out-u
-    measured-at-requires
+    (λ c. search needs) (λ c. search needs) (λ c κs. search needs)
     returns
-    add-k
-    loop-less
+    (λ c. search needs) (λ c. search needs)
     loop-again
     returns-2)

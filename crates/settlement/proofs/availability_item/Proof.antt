@@ -20,12 +20,6 @@ magnitude c =
     let a = c .before .before .args in
     c .availability-pay .ensures ∙ ap (λ (g : NetKwh). availability (a .declared) g (a .rates .cpf) (a .rates .bar)) (c .before .gate-of .ensures)
 
-gate-of-requires : tie.Need-gate-of-requires
-gate-of-requires c κs = search needs
-
-availability-pay-requires : tie.Need-availability-pay-requires
-availability-pay-requires c κs = search needs
-
 paid-requires : tie.Need-paid-requires
 paid-requires c κs =
     let start = c .before .before in
@@ -41,5 +35,4 @@ unfolding availabilityItem
 returns c = back _ (c .paid .ok) ∙ (c .paid .ensures ∙ ap paid (magnitude (c .before)))
 
 pub availability-item-spec : {M : Type 1} → statement M
-availability-item-spec =
-    tie.close (tie.spec gate-of-requires availability-pay-requires paid-requires returns)
+availability-item-spec = tie.close (tie.spec (λ c κs. search needs) (λ c κs. search needs) paid-requires returns)

@@ -23,24 +23,6 @@ loop-holds : tie.Need-loop-holds Inv-loop μ-loop
 unfolding tabulate
 loop-holds c = (omega arith, refl, refl)
 
-mul-t7 : tie.Need-mul-t7 Inv-loop μ-loop
-mul-t7 c = search needs
-
-array-read-t10 : tie.Need-array-read-t10 Inv-loop μ-loop
-array-read-t10 c = search needs
-
-mul-kwh : tie.Need-mul-kwh Inv-loop μ-loop
-mul-kwh c = search needs
-
-array-set-from-kwh : tie.Need-array-set-from-kwh Inv-loop μ-loop
-array-set-from-kwh c = search needs
-
-add-j : tie.Need-add-j Inv-loop μ-loop
-add-j c = search needs
-
-loop-less : tie.Need-loop-less Inv-loop μ-loop
-loop-less c = search needs
-
 loop-again : tie.Need-loop-again Inv-loop μ-loop
 loop-again c =
     let a = c .before .before .args in
@@ -64,11 +46,7 @@ deviations-by-spec =
     Inv-loop
     μ-loop
     loop-holds
-    mul-t7
-    array-read-t10
-    mul-kwh
-    array-set-from-kwh
-    add-j
-    loop-less
+    (λ c. search needs) (λ c. search needs) (λ c. search needs) (λ c. search needs) (λ c. search needs)
+    (λ c. search needs)
     loop-again
     returns)

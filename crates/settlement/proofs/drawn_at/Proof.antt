@@ -5,9 +5,6 @@ use borrow.Author.Needs.{needs}
 use Rattle.settlement.proofs.drawn_at.Statement.{statement}
 use Rattle.settlement.proofs.drawn_at.Tie as tie
 
-lowest-at-requires : tie.Need-lowest-at-requires
-lowest-at-requires c κs = search needs
-
 returns : tie.Need-returns
 returns c = rw (sym (c .before .lowest-at .ensures) ∙ c .if1 .taken)
 
@@ -15,4 +12,4 @@ returns-2 : tie.Need-returns-2
 returns-2 c = rw (sym (c .before .lowest-at .ensures) ∙ c .if1 .left)
 
 pub drawn-at-spec : {M : Type 1} → statement M
-drawn-at-spec = tie.close (tie.spec lowest-at-requires returns returns-2)
+drawn-at-spec = tie.close (tie.spec (λ c κs. search needs) returns returns-2)

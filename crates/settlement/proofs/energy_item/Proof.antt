@@ -18,12 +18,6 @@ magnitude c =
     let a = c .before .before .args in
     c .energy-pay .ensures ∙ ap energyPay (c .before .cost-between .ensures ∙ cost-first (a .offer) (a .commitment) (a .energy .0))
 
-cost-between-requires : tie.Need-cost-between-requires
-cost-between-requires c κs = search needs
-
-energy-pay-requires : tie.Need-energy-pay-requires
-energy-pay-requires c κs = search needs
-
 paid-requires : tie.Need-paid-requires
 paid-requires c κs =
     let start = c .before .before in
@@ -36,5 +30,4 @@ unfolding energyItem
 returns c = back _ (c .paid .ok) ∙ (c .paid .ensures ∙ ap paid (magnitude (c .before)))
 
 pub energy-item-spec : {M : Type 1} → statement M
-energy-item-spec =
-    tie.close (tie.spec cost-between-requires energy-pay-requires paid-requires returns)
+energy-item-spec = tie.close (tie.spec (λ c κs. search needs) (λ c κs. search needs) paid-requires returns)

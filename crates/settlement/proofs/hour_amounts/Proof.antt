@@ -18,57 +18,12 @@ Inv-loop rates drawn own energy units offers commitments unit amounts₀ k₀ am
 abbrev μ-loop : tie.MeasureT-loop
 μ-loop rates drawn own energy units offers commitments unit amounts₀ k₀ amounts k = 8 - k
 
-no-amounts-requires : tie.Need-no-amounts-requires Inv-loop μ-loop
-no-amounts-requires c κs = search needs
-
 loop-holds : tie.Need-loop-holds Inv-loop μ-loop
 unfolding tabulate
 loop-holds c = (omega arith, refl, refl)
 
-mul-offer : tie.Need-mul-offer Inv-loop μ-loop
-mul-offer c = search needs
-
-array-copy-out-offer : tie.Need-array-copy-out-offer Inv-loop μ-loop
-array-copy-out-offer c = search needs
-
-mul-commitment : tie.Need-mul-commitment Inv-loop μ-loop
-mul-commitment c = search needs
-
-array-copy-out-commitment : tie.Need-array-copy-out-commitment Inv-loop μ-loop
-array-copy-out-commitment c = search needs
-
-mul-u : tie.Need-mul-u Inv-loop μ-loop
-mul-u c = search needs
-
-array-copy-out-u : tie.Need-array-copy-out-u Inv-loop μ-loop
-array-copy-out-u c = search needs
-
-mul-its : tie.Need-mul-its Inv-loop μ-loop
-mul-its c = search needs
-
-array-copy-out-its : tie.Need-array-copy-out-its Inv-loop μ-loop
-array-copy-out-its c = search needs
-
-mul-place-amounts : tie.Need-mul-place-amounts Inv-loop μ-loop
-mul-place-amounts c = search needs
-
-array-read-place-amounts : tie.Need-array-read-place-amounts Inv-loop μ-loop
-array-read-place-amounts c = search needs
-
 place-amounts-requires : tie.Need-place-amounts-requires Inv-loop μ-loop
 place-amounts-requires c κs = (c .before .before .before .before .before .before .before .before .before .before .pre .0, c .before .before .before .before .before .before .before .before .before .before .pre .1 (c .before .before .before .before .before .loop .k), c .before .before .before .before .before .before .before .before .before .before .pre .2)
-
-mul-amounts : tie.Need-mul-amounts Inv-loop μ-loop
-mul-amounts c = search needs
-
-array-set-from-amounts : tie.Need-array-set-from-amounts Inv-loop μ-loop
-array-set-from-amounts c = search needs
-
-add-k : tie.Need-add-k Inv-loop μ-loop
-add-k c = search needs
-
-loop-less : tie.Need-loop-less Inv-loop μ-loop
-loop-less c = search needs
 
 loop-again : tie.Need-loop-again Inv-loop μ-loop
 loop-again c =
@@ -91,22 +46,11 @@ hour-amounts-spec =
     (tie.spec
     Inv-loop
     μ-loop
-    no-amounts-requires
+    (λ c κs. search needs)
     loop-holds
-    mul-offer
-    array-copy-out-offer
-    mul-commitment
-    array-copy-out-commitment
-    mul-u
-    array-copy-out-u
-    mul-its
-    array-copy-out-its
-    mul-place-amounts
-    array-read-place-amounts
+    (λ c. search needs) (λ c. search needs) (λ c. search needs) (λ c. search needs) (λ c. search needs)
+    (λ c. search needs) (λ c. search needs) (λ c. search needs) (λ c. search needs) (λ c. search needs)
     place-amounts-requires
-    mul-amounts
-    array-set-from-amounts
-    add-k
-    loop-less
+    (λ c. search needs) (λ c. search needs) (λ c. search needs) (λ c. search needs)
     loop-again
     returns)

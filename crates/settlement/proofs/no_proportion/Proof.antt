@@ -30,17 +30,8 @@ its c j l =
     let a = c .before .args in
     sym (ap (λ (s : List ℕ). getD s j 0) (c .proportions .ensures) ∙ proportion-at (a .own) (a .u) (c .before .pre .1) j l)
 
-proportions-requires : tie.Need-proportions-requires Inv-loop μ-loop
-proportions-requires c κs = search needs
-
 loop-holds : tie.Need-loop-holds Inv-loop μ-loop
 loop-holds c = (omega arith, λ i l. absurd (omega arith))
-
-mul-if1 : tie.Need-mul-if1 Inv-loop μ-loop
-mul-if1 c = search needs
-
-array-read-if1 : tie.Need-array-read-if1 Inv-loop μ-loop
-array-read-if1 c = search needs
 
 returns : tie.Need-returns Inv-loop μ-loop
 unfolding noProportion
@@ -48,12 +39,6 @@ returns c =
     let a = c .before .before .before .before .args in
     let j = c .before .before .loop .j in
     sym (every-fails kinds j (λ i. eqb (proportion (a .own) (a .u) (firstKind + i)) 0) (omega arith) (ne-eqb _ _ (λ e. c .if1 .taken (sym (its (c .before .before .before) j (omega arith)) ∙ e))))
-
-add-j : tie.Need-add-j Inv-loop μ-loop
-add-j c = search needs
-
-loop-less : tie.Need-loop-less Inv-loop μ-loop
-loop-less c = search needs
 
 loop-again : tie.Need-loop-again Inv-loop μ-loop
 loop-again c =
@@ -77,12 +62,10 @@ no-proportion-spec =
     (tie.spec
     Inv-loop
     μ-loop
-    proportions-requires
+    (λ c κs. search needs)
     loop-holds
-    mul-if1
-    array-read-if1
+    (λ c. search needs) (λ c. search needs)
     returns
-    add-j
-    loop-less
+    (λ c. search needs) (λ c. search needs)
     loop-again
     returns-2)

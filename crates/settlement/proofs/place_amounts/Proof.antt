@@ -14,12 +14,6 @@ due-most : (t : Bool) (n : ℕ) → cond t n 0 ≤ n
 due-most true n = omega arith
 due-most false n = omega arith
 
-member-at-requires : tie.Need-member-at-requires
-member-at-requires c κs = search needs
-
-drawn-at-requires : tie.Need-drawn-at-requires
-drawn-at-requires c κs = search needs
-
 unit-amounts-requires : tie.Need-unit-amounts-requires
 unit-amounts-requires c κs =
     let start = c .before .before .before in
@@ -32,9 +26,6 @@ returns c =
     rw (sym (c .before .before .before .member-at .ensures) ∙ c .before .before .if1 .taken)
     (c .unit-amounts .ensures ∙ ap (λ (n : ℕ). amountsOf (a .rates) (a .own) (a .offer) (a .commitment) (a .u) (a .energy) n) (c .before .drawn-at .ensures))
 
-no-amounts-requires : tie.Need-no-amounts-requires
-no-amounts-requires c κs = search needs
-
 returns-2 : tie.Need-returns-2
 returns-2 c = rw (sym (c .before .before .member-at .ensures) ∙ c .before .if1 .left) (c .no-amounts .ensures)
 
@@ -42,9 +33,8 @@ pub place-amounts-spec : {M : Type 1} → statement M
 place-amounts-spec =
     tie.close
     (tie.spec
-    member-at-requires
-    drawn-at-requires
+    (λ c κs. search needs) (λ c κs. search needs)
     unit-amounts-requires
     returns
-    no-amounts-requires
+    (λ c κs. search needs)
     returns-2)

@@ -4,9 +4,6 @@ use borrow.Author.Needs.{needs}
 use Rattle.settlement.proofs.plant_of.Statement.{statement}
 use Rattle.settlement.proofs.plant_of.Tie as tie
 
-real-of-requires : tie.Need-real-of-requires
-real-of-requires c κs = search needs
-
 returns : tie.Need-returns
 returns c =
     let a = c .before .before .before .args in
@@ -21,4 +18,4 @@ returns c =
     }
 
 pub plant-of-spec : {M : Type 1} → statement M
-plant-of-spec = tie.close (tie.spec real-of-requires returns)
+plant-of-spec = tie.close (tie.spec (λ c κs. search needs) returns)

@@ -5,9 +5,6 @@ use borrow.Author.Needs.{needs}
 use Rattle.settlement.proofs.proportioned_at.Statement.{statement}
 use Rattle.settlement.proofs.proportioned_at.Tie as tie
 
-member-at-requires : tie.Need-member-at-requires
-member-at-requires c κs = search needs
-
 unit-proportioned-requires : tie.Need-unit-proportioned-requires
 unit-proportioned-requires c κs = c .before .before .pre (sym (c .before .member-at .ensures) ∙ c .if1 .taken)
 
@@ -18,5 +15,4 @@ returns-2 : tie.Need-returns-2
 returns-2 c = rw (sym (c .before .member-at .ensures) ∙ c .if1 .left)
 
 pub proportioned-at-spec : {M : Type 1} → statement M
-proportioned-at-spec =
-    tie.close (tie.spec member-at-requires unit-proportioned-requires returns returns-2)
+proportioned-at-spec = tie.close (tie.spec (λ c κs. search needs) unit-proportioned-requires returns returns-2)

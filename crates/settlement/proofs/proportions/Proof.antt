@@ -36,9 +36,6 @@ mul-span c = omega (arith, c .before .before .before .pre .1 .spans-most)
 element-copy-out-span : tie.Need-element-copy-out-span Inv-loop μ-loop
 element-copy-out-span c = omega (arith, c .before .before .before .pre .1 .spans-most)
 
-counted-kind-requires : tie.Need-counted-kind-requires Inv-loop μ-loop
-counted-kind-requires c κs = search needs
-
 short-minutes-requires : tie.Need-short-minutes-requires Inv-loop μ-loop
 short-minutes-requires c κs = let start = c .before .before .before .before .before .before in (start .pre .0, start .pre .1 .test, start .pre .1 .span (c .before .before .before .before .loop .i) (omega arith))
 
@@ -63,12 +60,6 @@ add-sums c =
 
 array-write-sums : tie.Need-array-write-sums Inv-loop μ-loop
 array-write-sums c = let p = place (c .before) in omega arith
-
-add-i : tie.Need-add-i Inv-loop μ-loop
-add-i c = search needs
-
-loop-less : tie.Need-loop-less Inv-loop μ-loop
-loop-less c = search needs
 
 loop-again : tie.Need-loop-again Inv-loop μ-loop
 loop-again c =
@@ -107,13 +98,12 @@ proportions-spec =
     loop-holds
     mul-span
     element-copy-out-span
-    counted-kind-requires
+    (λ c κs. search needs)
     short-minutes-requires
     mul-sums
     array-read-sums
     add-sums
     array-write-sums
-    add-i
-    loop-less
+    (λ c. search needs) (λ c. search needs)
     loop-again
     returns)

@@ -33,18 +33,6 @@ loop-holds : tie.Need-loop-holds Inv-loop μ-loop
 unfolding every
 loop-holds c = (omega arith, refl)
 
-mul-u : tie.Need-mul-u Inv-loop μ-loop
-mul-u c = search needs
-
-element-copy-out-u : tie.Need-element-copy-out-u Inv-loop μ-loop
-element-copy-out-u c = search needs
-
-mul-proportioned-at : tie.Need-mul-proportioned-at Inv-loop μ-loop
-mul-proportioned-at c = search needs
-
-array-read-proportioned-at : tie.Need-array-read-proportioned-at Inv-loop μ-loop
-array-read-proportioned-at c = search needs
-
 proportioned-at-requires : tie.Need-proportioned-at-requires Inv-loop μ-loop
 proportioned-at-requires c κs = λ m.
     let start = c .before .before .before .before in
@@ -56,12 +44,6 @@ returns c =
     let a = c .before .before .before .before .before .before .args in
     let k = c .before .before .before .before .loop .k in
     sym (every-fails 8 k (at (a .day .units) (a .day .own) (a .t2)) (omega arith) (sym (c .before .proportioned-at .ensures) ∙ not-true _ (c .if1 .taken)))
-
-add-k : tie.Need-add-k Inv-loop μ-loop
-add-k c = search needs
-
-loop-less : tie.Need-loop-less Inv-loop μ-loop
-loop-less c = search needs
 
 loop-again : tie.Need-loop-again Inv-loop μ-loop
 loop-again c =
@@ -84,13 +66,9 @@ proportions-hold-spec =
     Inv-loop
     μ-loop
     loop-holds
-    mul-u
-    element-copy-out-u
-    mul-proportioned-at
-    array-read-proportioned-at
+    (λ c. search needs) (λ c. search needs) (λ c. search needs) (λ c. search needs)
     proportioned-at-requires
     returns
-    add-k
-    loop-less
+    (λ c. search needs) (λ c. search needs)
     loop-again
     returns-2)

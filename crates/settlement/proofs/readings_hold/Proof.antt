@@ -21,21 +21,9 @@ over c =
     c .exceeds .ensures
     ∙ ap (λ (n : NetKwh). ltb (c .before .before .args .hour .net .0) (n .0)) (c .before .readings-total .ensures)
 
-readings-total-requires : tie.Need-readings-total-requires
-readings-total-requires c κs = search needs
-
-exceeds-requires : tie.Need-exceeds-requires
-exceeds-requires c κs = search needs
-
 returns : tie.Need-returns
 unfolding readingsHold
 returns c = rw (sym (over (c .before)) ∙ c .if1 .taken)
-
-all-measured-requires : tie.Need-all-measured-requires
-all-measured-requires c κs = search needs
-
-equals-requires : tie.Need-equals-requires
-equals-requires c κs = search needs
 
 returns-2 : tie.Need-returns-2
 unfolding readingsHold
@@ -55,10 +43,8 @@ pub readings-hold-spec : {M : Type 1} → statement M
 readings-hold-spec =
     tie.close
     (tie.spec
-    readings-total-requires
-    exceeds-requires
+    (λ c κs. search needs) (λ c κs. search needs)
     returns
-    all-measured-requires
-    equals-requires
+    (λ c κs. search needs) (λ c κs. search needs)
     returns-2
     returns-3)

@@ -32,26 +32,11 @@ loop-holds : tie.Need-loop-holds Inv-loop μ-loop
 unfolding sum
 loop-holds c = (omega arith, omega arith, refl)
 
-mul-u : tie.Need-mul-u Inv-loop μ-loop
-mul-u c = search needs
-
-element-copy-out-u : tie.Need-element-copy-out-u Inv-loop μ-loop
-element-copy-out-u c = search needs
-
-reading-at-requires : tie.Need-reading-at-requires Inv-loop μ-loop
-reading-at-requires c κs = search needs
-
 plus-requires : tie.Need-plus-requires Inv-loop μ-loop
 plus-requires c κs =
     let start = c .before .before .before .before in
     let l = c .before .before .before .loop in
     omega (arith, l .inv .1, reading-most (start .args .t1) (start .args .units) (start .pre) (l .k))
-
-add-k : tie.Need-add-k Inv-loop μ-loop
-add-k c = search needs
-
-loop-less : tie.Need-loop-less Inv-loop μ-loop
-loop-less c = search needs
 
 loop-again : tie.Need-loop-again Inv-loop μ-loop
 loop-again c =
@@ -78,11 +63,8 @@ readings-total-spec =
     Inv-loop
     μ-loop
     loop-holds
-    mul-u
-    element-copy-out-u
-    reading-at-requires
+    (λ c. search needs) (λ c. search needs) (λ c κs. search needs)
     plus-requires
-    add-k
-    loop-less
+    (λ c. search needs) (λ c. search needs)
     loop-again
     returns)

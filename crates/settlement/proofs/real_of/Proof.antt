@@ -22,24 +22,6 @@ loop-holds : tie.Need-loop-holds Inv-loop μ-loop
 unfolding tabulate
 loop-holds c = (omega arith, refl, refl)
 
-mul-u : tie.Need-mul-u Inv-loop μ-loop
-mul-u c = search needs
-
-element-copy-out-u : tie.Need-element-copy-out-u Inv-loop μ-loop
-element-copy-out-u c = search needs
-
-mul-real : tie.Need-mul-real Inv-loop μ-loop
-mul-real c = search needs
-
-array-set-from-real : tie.Need-array-set-from-real Inv-loop μ-loop
-array-set-from-real c = search needs
-
-add-k : tie.Need-add-k Inv-loop μ-loop
-add-k c = search needs
-
-loop-less : tie.Need-loop-less Inv-loop μ-loop
-loop-less c = search needs
-
 loop-again : tie.Need-loop-again Inv-loop μ-loop
 loop-again c =
     let a = c .before .before .before .before .args in
@@ -62,11 +44,7 @@ real-of-spec =
     Inv-loop
     μ-loop
     loop-holds
-    mul-u
-    element-copy-out-u
-    mul-real
-    array-set-from-real
-    add-k
-    loop-less
+    (λ c. search needs) (λ c. search needs) (λ c. search needs) (λ c. search needs) (λ c. search needs)
+    (λ c. search needs)
     loop-again
     returns)

@@ -19,9 +19,6 @@ energies-here c =
     let a = c .before .before .before .before .args in
     c .allocate .ensures ∙ ap (energies (a .hour .net) (a .hour .reverse)) (c .before .plant-of .ensures)
 
-plant-of-requires : tie.Need-plant-of-requires
-plant-of-requires c κs = search needs
-
 allocate-requires : tie.Need-allocate-requires
 allocate-requires c κs =
     let start = c .before .before .before in
@@ -61,7 +58,7 @@ pub settle-hour-spec : {M : Type 1} → statement M
 settle-hour-spec =
     tie.close
     (tie.spec
-    plant-of-requires
+    (λ c κs. search needs)
     allocate-requires
     drawn-pay-requires
     hour-amounts-requires

@@ -22,9 +22,6 @@ product c =
 net-of-requires : tie.Need-net-of-requires
 net-of-requires c κs = (omega (arith, c .pre .2 .capability), c .pre .0)
 
-above-requires : tie.Need-above-requires
-above-requires c κs = search needs
-
 weight-requires : tie.Need-weight-requires
 weight-requires c κs = let start = c .before .before in omega (arith, product c, short-most (start .args .own) (start .args .test) (start .args .span) (start .pre .1) (start .pre .2))
 
@@ -32,4 +29,4 @@ returns : tie.Need-returns
 returns c = c .weight .ensures ∙ product (c .before)
 
 pub short-minutes-spec : {M : Type 1} → statement M
-short-minutes-spec = tie.close (tie.spec net-of-requires above-requires weight-requires returns)
+short-minutes-spec = tie.close (tie.spec net-of-requires (λ c κs. search needs) weight-requires returns)

@@ -11,15 +11,6 @@ use borrow.Author.Needs.{needs}
 use Rattle.settlement.proofs.split.Statement.{statement}
 use Rattle.settlement.proofs.split.Tie as tie
 
-proportions-requires : tie.Need-proportions-requires
-proportions-requires c κs = search needs
-
-slice-aggregate-apportion : tie.Need-slice-aggregate-apportion
-slice-aggregate-apportion c = search needs
-
-slice-aggregate-apportion-2 : tie.Need-slice-aggregate-apportion-2
-slice-aggregate-apportion-2 c = search needs
-
 apportion-requires : tie.Need-apportion-requires
 apportion-requires c κs =
     let start = c .before .before .before in
@@ -27,9 +18,6 @@ apportion-requires c κs =
     let w = c .before .before .proportions .ensures in
     let f = proportions-fit (a .own) (a .u) (start .pre .1) in
     (sym (ap length w ∙ proportions-length (a .own) (a .u) (start .pre .1)), rw w (f .0), rw w (f .1))
-
-deviations-by-requires : tie.Need-deviations-by-requires
-deviations-by-requires c κs = search needs
 
 returns : tie.Need-returns
 unfolding deviationsOf
@@ -42,9 +30,7 @@ pub split-spec : {M : Type 1} → statement M
 split-spec =
     tie.close
     (tie.spec
-    proportions-requires
-    slice-aggregate-apportion
-    slice-aggregate-apportion-2
+    (λ c κs. search needs) (λ c. search needs) (λ c. search needs)
     apportion-requires
-    deviations-by-requires
+    (λ c κs. search needs)
     returns)

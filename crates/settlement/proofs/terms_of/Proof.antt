@@ -5,18 +5,6 @@ use borrow.Author.Needs.{needs}
 use Rattle.settlement.proofs.terms_of.Statement.{statement}
 use Rattle.settlement.proofs.terms_of.Tie as tie
 
-in-season-requires : tie.Need-in-season-requires
-in-season-requires c κs = search needs
-
-own-of-requires : tie.Need-own-of-requires
-own-of-requires c κs = search needs
-
-nominal-of-requires : tie.Need-nominal-of-requires
-nominal-of-requires c κs = search needs
-
-monthly-of-requires : tie.Need-monthly-of-requires
-monthly-of-requires c κs = search needs
-
 returns : tie.Need-returns
 unfolding termsOf
 returns c =
@@ -35,4 +23,8 @@ returns c =
     }
 
 pub terms-of-spec : {M : Type 1} → statement M
-terms-of-spec = tie.close (tie.spec in-season-requires own-of-requires nominal-of-requires monthly-of-requires returns)
+terms-of-spec =
+    tie.close
+    (tie.spec
+    (λ c κs. search needs) (λ c κs. search needs) (λ c κs. search needs) (λ c κs. search needs)
+    returns)

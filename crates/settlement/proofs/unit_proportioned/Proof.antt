@@ -10,9 +10,6 @@ use borrow.Author.Needs.{needs}
 use Rattle.settlement.proofs.unit_proportioned.Statement.{statement}
 use Rattle.settlement.proofs.unit_proportioned.Tie as tie
 
-equals-requires : tie.Need-equals-requires
-equals-requires c κs = search needs
-
 returns : tie.Need-returns
 unfolding unitProportioned
 returns c =
@@ -20,9 +17,6 @@ returns c =
     let e : d ≡ 0 = eqb-true d 0 (sym (c .before .equals .ensures) ∙ c .if1 .taken) in
     let h : d ≤ 0 = omega arith in
     rw (le-ltb _ _ h)
-
-no-proportion-requires : tie.Need-no-proportion-requires
-no-proportion-requires c κs = search needs
 
 returns-2 : tie.Need-returns-2
 unfolding unitProportioned
@@ -33,5 +27,4 @@ returns-2 c =
     rw (lt-ltb _ _ h) (ap not (c .no-proportion .ensures))
 
 pub unit-proportioned-spec : {M : Type 1} → statement M
-unit-proportioned-spec =
-    tie.close (tie.spec equals-requires returns no-proportion-requires returns-2)
+unit-proportioned-spec = tie.close (tie.spec (λ c κs. search needs) returns (λ c κs. search needs) returns-2)

@@ -23,24 +23,6 @@ loop-holds : tie.Need-loop-holds Inv-loop μ-loop
 unfolding tabulate
 loop-holds c = (omega arith, refl, refl)
 
-add-first-at : tie.Need-add-first-at Inv-loop μ-loop
-add-first-at c = search needs
-
-first-at-requires : tie.Need-first-at-requires Inv-loop μ-loop
-first-at-requires c κs = search needs
-
-mul-cpf : tie.Need-mul-cpf Inv-loop μ-loop
-mul-cpf c = search needs
-
-array-write-cpf : tie.Need-array-write-cpf Inv-loop μ-loop
-array-write-cpf c = search needs
-
-add-h : tie.Need-add-h Inv-loop μ-loop
-add-h c = search needs
-
-loop-less : tie.Need-loop-less Inv-loop μ-loop
-loop-less c = search needs
-
 loop-again : tie.Need-loop-again Inv-loop μ-loop
 loop-again c =
     let l = c .before .before .loop in (
@@ -64,11 +46,7 @@ cpf-by-spec =
     Inv-loop
     μ-loop
     loop-holds
-    add-first-at
-    first-at-requires
-    mul-cpf
-    array-write-cpf
-    add-h
-    loop-less
+    (λ c. search needs) (λ c κs. search needs) (λ c. search needs) (λ c. search needs) (λ c. search needs)
+    (λ c. search needs)
     loop-again
     returns)

@@ -24,20 +24,8 @@ loop-holds : tie.Need-loop-holds Inv-loop μ-loop
 unfolding every
 loop-holds c = (omega arith, refl)
 
-mul-if1 : tie.Need-mul-if1 Inv-loop μ-loop
-mul-if1 c = search needs
-
-array-read-if1 : tie.Need-array-read-if1 Inv-loop μ-loop
-array-read-if1 c = search needs
-
 returns : tie.Need-returns Inv-loop μ-loop
 returns c = sym (every-fails 24 (c .before .before .loop .h) (λ h. leb (getD (c .before .before .before .args .t1) h 0) mostCpf) (omega arith) (lt-leb _ _ (c .if1 .taken)))
-
-add-h : tie.Need-add-h Inv-loop μ-loop
-add-h c = search needs
-
-loop-less : tie.Need-loop-less Inv-loop μ-loop
-loop-less c = search needs
 
 loop-again : tie.Need-loop-again Inv-loop μ-loop
 loop-again c =
@@ -57,10 +45,8 @@ cpf-holds-spec =
     Inv-loop
     μ-loop
     loop-holds
-    mul-if1
-    array-read-if1
+    (λ c. search needs) (λ c. search needs)
     returns
-    add-h
-    loop-less
+    (λ c. search needs) (λ c. search needs)
     loop-again
     returns-2)

@@ -17,11 +17,8 @@ returns-2 c = simp (le-leb _ _ (c .before .if1 .left), lt-leb _ _ (c .if2 .taken
 returns-3 : tie.Need-returns-3
 returns-3 c = simp (le-leb _ _ (c .before .before .if1 .left), le-leb _ _ (c .before .if2 .left), lt-leb _ _ (c .if3 .taken))
 
-last-day-requires : tie.Need-last-day-requires
-last-day-requires c κs = search needs
-
 returns-4 : tie.Need-returns-4
 returns-4 c = simp (le-leb _ _ (c .before .before .before .if1 .left), le-leb _ _ (c .before .before .if2 .left), le-leb _ _ (c .before .if3 .left)) (ap (λ (n : ℕ). leb (c .before .before .before .before .args .day) n) (c .last-day .ensures))
 
 pub date-holds-spec : {M : Type 1} → statement M
-date-holds-spec = tie.close (tie.spec returns returns-2 returns-3 last-day-requires returns-4)
+date-holds-spec = tie.close (tie.spec returns returns-2 returns-3 (λ c κs. search needs) returns-4)

@@ -11,18 +11,9 @@ use borrow.Author.Needs.{needs}
 use Rattle.sheet.proofs.head_row.Statement.{statement}
 use Rattle.sheet.proofs.head_row.Tie as tie
 
-number-row-requires : tie.Need-number-row-requires
-number-row-requires c κs = search needs
-
 returns : tie.Need-returns
 unfolding headRows
 returns c = c .number-row .ensures ∙ ap (λ (n : ℕ). getD (headRows (c .before .before .before .before .args .month)) n endRow) (sym (c .before .before .before .if1 .taken))
-
-last-day-requires : tie.Need-last-day-requires
-last-day-requires c κs = search needs
-
-number-row-requires-2 : tie.Need-number-row-requires-2
-number-row-requires-2 c κs = search needs
 
 returns-2 : tie.Need-returns-2
 unfolding headRows
@@ -30,36 +21,21 @@ returns-2 c =
     (c .number-row2 .ensures ∙ ap (λ (n : ℕ). numberRow (word "day") 1 n) (c .before .last-day .ensures))
     ∙ ap (λ (n : ℕ). getD (headRows (c .before .before .before .before .before .before .args .month)) n endRow) (sym (c .before .before .before .before .if2 .taken))
 
-number-row-requires-3 : tie.Need-number-row-requires-3
-number-row-requires-3 c κs = search needs
-
 returns-3 : tie.Need-returns-3
 unfolding headRows
 returns-3 c = c .number-row3 .ensures ∙ ap (λ (n : ℕ). getD (headRows (c .before .before .before .before .before .before .args .month)) n endRow) (sym (c .before .before .before .if3 .taken))
-
-number-row-requires-4 : tie.Need-number-row-requires-4
-number-row-requires-4 c κs = search needs
 
 returns-4 : tie.Need-returns-4
 unfolding headRows
 returns-4 c = c .number-row4 .ensures ∙ ap (λ (n : ℕ). getD (headRows (c .before .before .before .before .before .before .before .args .month)) n endRow) (sym (c .before .before .before .if4 .taken))
 
-number-row-requires-5 : tie.Need-number-row-requires-5
-number-row-requires-5 c κs = search needs
-
 returns-5 : tie.Need-returns-5
 unfolding headRows
 returns-5 c = c .number-row5 .ensures ∙ ap (λ (n : ℕ). getD (headRows (c .before .before .before .before .before .before .before .before .args .month)) n endRow) (sym (c .before .before .before .if5 .taken))
 
-number-row-requires-6 : tie.Need-number-row-requires-6
-number-row-requires-6 c κs = search needs
-
 returns-6 : tie.Need-returns-6
 unfolding headRows
 returns-6 c = c .number-row6 .ensures ∙ ap (λ (n : ℕ). getD (headRows (c .before .before .before .before .before .before .before .before .before .args .month)) n endRow) (sym (c .before .before .before .if6 .taken))
-
-number-row-requires-7 : tie.Need-number-row-requires-7
-number-row-requires-7 c κs = search needs
 
 returns-7 : tie.Need-returns-7
 returns-7 c =
@@ -69,18 +45,17 @@ pub head-row-spec : {M : Type 1} → statement M
 head-row-spec =
     tie.close
     (tie.spec
-    number-row-requires
+    (λ c κs. search needs)
     returns
-    last-day-requires
-    number-row-requires-2
+    (λ c κs. search needs) (λ c κs. search needs)
     returns-2
-    number-row-requires-3
+    (λ c κs. search needs)
     returns-3
-    number-row-requires-4
+    (λ c κs. search needs)
     returns-4
-    number-row-requires-5
+    (λ c κs. search needs)
     returns-5
-    number-row-requires-6
+    (λ c κs. search needs)
     returns-6
-    number-row-requires-7
+    (λ c κs. search needs)
     returns-7)

@@ -23,24 +23,6 @@ loop-holds : tie.Need-loop-holds Inv-loop μ-loop
 unfolding tabulate
 loop-holds c = (omega arith, refl, refl)
 
-mul-u : tie.Need-mul-u Inv-loop μ-loop
-mul-u c = search needs
-
-element-copy-out-u : tie.Need-element-copy-out-u Inv-loop μ-loop
-element-copy-out-u c = search needs
-
-mul-monthly : tie.Need-mul-monthly Inv-loop μ-loop
-mul-monthly c = search needs
-
-array-set-from-monthly : tie.Need-array-set-from-monthly Inv-loop μ-loop
-array-set-from-monthly c = search needs
-
-add-k : tie.Need-add-k Inv-loop μ-loop
-add-k c = search needs
-
-loop-less : tie.Need-loop-less Inv-loop μ-loop
-loop-less c = search needs
-
 loop-again : tie.Need-loop-again Inv-loop μ-loop
 loop-again c =
     let s = c .before .before .before .before .args .t1 in
@@ -64,11 +46,7 @@ monthly-of-spec =
     Inv-loop
     μ-loop
     loop-holds
-    mul-u
-    element-copy-out-u
-    mul-monthly
-    array-set-from-monthly
-    add-k
-    loop-less
+    (λ c. search needs) (λ c. search needs) (λ c. search needs) (λ c. search needs) (λ c. search needs)
+    (λ c. search needs)
     loop-again
     returns)

@@ -28,39 +28,6 @@ loop-holds : tie.Need-loop-holds Inv-loop μ-loop
 unfolding tabulate
 loop-holds c = (omega arith, refl, refl, refl, refl)
 
-mul-number-at : tie.Need-mul-number-at Inv-loop μ-loop
-mul-number-at c = search needs
-
-number-at-requires : tie.Need-number-at-requires Inv-loop μ-loop
-number-at-requires c κs = search needs
-
-mul-quantity : tie.Need-mul-quantity Inv-loop μ-loop
-mul-quantity c = search needs
-
-array-set-from-quantity : tie.Need-array-set-from-quantity Inv-loop μ-loop
-array-set-from-quantity c = search needs
-
-mul-number-at-2 : tie.Need-mul-number-at-2 Inv-loop μ-loop
-mul-number-at-2 c = search needs
-
-add-number-at : tie.Need-add-number-at Inv-loop μ-loop
-add-number-at c = search needs
-
-number-at-requires-2 : tie.Need-number-at-requires-2 Inv-loop μ-loop
-number-at-requires-2 c κs = search needs
-
-mul-price : tie.Need-mul-price Inv-loop μ-loop
-mul-price c = search needs
-
-array-write-price : tie.Need-array-write-price Inv-loop μ-loop
-array-write-price c = search needs
-
-add-s : tie.Need-add-s Inv-loop μ-loop
-add-s c = search needs
-
-loop-less : tie.Need-loop-less Inv-loop μ-loop
-loop-less c = search needs
-
 loop-again : tie.Need-loop-again Inv-loop μ-loop
 loop-again c =
     let l = c .before .before .before .loop in
@@ -72,9 +39,6 @@ loop-again c =
           (ap {B = HubKwh} (λ (n : ℕ). record { 0 = n }) (c .before .number-at .ensures)),
       filled-next (λ s. getD (lineIn (g .cells .now) (g .k) .number) (2 * s + 1) 0) (l .price) (l .s) _ (omega arith) (l .inv .4) (c .number-at2 .ensures),
     )
-
-count-at-requires : tie.Need-count-at-requires Inv-loop μ-loop
-count-at-requires c κs = search needs
 
 returns : tie.Need-returns Inv-loop μ-loop
 unfolding offerBy
@@ -97,17 +61,9 @@ offer-by-spec =
     Inv-loop
     μ-loop
     loop-holds
-    mul-number-at
-    number-at-requires
-    mul-quantity
-    array-set-from-quantity
-    mul-number-at-2
-    add-number-at
-    number-at-requires-2
-    mul-price
-    array-write-price
-    add-s
-    loop-less
+    (λ c. search needs) (λ c κs. search needs) (λ c. search needs) (λ c. search needs) (λ c. search needs)
+    (λ c. search needs) (λ c κs. search needs) (λ c. search needs) (λ c. search needs) (λ c. search needs)
+    (λ c. search needs)
     loop-again
-    count-at-requires
+    (λ c κs. search needs)
     returns)

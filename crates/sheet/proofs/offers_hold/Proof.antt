@@ -23,23 +23,8 @@ loop-holds : tie.Need-loop-holds Inv-loop μ-loop
 unfolding every
 loop-holds c = (omega arith, refl)
 
-mul-o : tie.Need-mul-o Inv-loop μ-loop
-mul-o c = search needs
-
-element-copy-out-o : tie.Need-element-copy-out-o Inv-loop μ-loop
-element-copy-out-o c = search needs
-
-offer-holds-requires : tie.Need-offer-holds-requires Inv-loop μ-loop
-offer-holds-requires c κs = search needs
-
 returns : tie.Need-returns Inv-loop μ-loop
 returns c = sym (every-fails 24 (c .before .before .before .before .loop .h) (λ h. offerHolds (offerAt (c .before .before .before .before .before .args .t1) h)) (omega arith) (sym (c .before .offer-holds .ensures) ∙ not-true _ (c .if1 .taken)))
-
-add-h : tie.Need-add-h Inv-loop μ-loop
-add-h c = search needs
-
-loop-less : tie.Need-loop-less Inv-loop μ-loop
-loop-less c = search needs
 
 loop-again : tie.Need-loop-again Inv-loop μ-loop
 loop-again c =
@@ -59,11 +44,8 @@ offers-hold-spec =
     Inv-loop
     μ-loop
     loop-holds
-    mul-o
-    element-copy-out-o
-    offer-holds-requires
+    (λ c. search needs) (λ c. search needs) (λ c κs. search needs)
     returns
-    add-h
-    loop-less
+    (λ c. search needs) (λ c. search needs)
     loop-again
     returns-2)

@@ -9,12 +9,6 @@ use borrow.Author.Needs.{needs}
 use Rattle.sheet.proofs.place_by.Statement.{statement}
 use Rattle.sheet.proofs.place_by.Tie as tie
 
-member-at-requires : tie.Need-member-at-requires
-member-at-requires c κs = search needs
-
-block-of-requires : tie.Need-block-of-requires
-block-of-requires c κs = search needs
-
 unit-by-requires : tie.Need-unit-by-requires
 unit-by-requires c κs = omega (arith, c .block-of .ensures, members-le (c .before .before .before .before .args .units) (c .before .before .before .before .args .k), c .before .before .before .before .pre)
 
@@ -23,9 +17,6 @@ returns c =
     simp (sym (c .before .before .before .member-at .ensures) ∙ c .before .before .if1 .taken)
     (c .unit-by .ensures ∙ ap (unitBy (lineIn (c .before .before .before .before .before .args .cells .now))) (c .before .block-of .ensures))
 
-no-unit-requires : tie.Need-no-unit-requires
-no-unit-requires c κs = search needs
-
 returns-2 : tie.Need-returns-2
 returns-2 c = simp (sym (c .before .before .member-at .ensures) ∙ c .before .if1 .left) (c .no-unit .ensures)
 
@@ -33,9 +24,8 @@ pub place-by-spec : {M : Type 1} → statement M
 place-by-spec =
     tie.close
     (tie.spec
-    member-at-requires
-    block-of-requires
+    (λ c κs. search needs) (λ c κs. search needs)
     unit-by-requires
     returns
-    no-unit-requires
+    (λ c κs. search needs)
     returns-2)

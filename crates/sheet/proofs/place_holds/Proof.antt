@@ -5,12 +5,6 @@ use borrow.Author.Needs.{needs}
 use Rattle.sheet.proofs.place_holds.Statement.{statement}
 use Rattle.sheet.proofs.place_holds.Tie as tie
 
-member-at-requires : tie.Need-member-at-requires
-member-at-requires c κs = search needs
-
-unit-holds-requires : tie.Need-unit-holds-requires
-unit-holds-requires c κs = search needs
-
 returns : tie.Need-returns
 returns c = simp (sym (c .before .before .member-at .ensures) ∙ c .before .if1 .taken) (c .unit-holds .ensures)
 
@@ -18,4 +12,4 @@ returns-2 : tie.Need-returns-2
 returns-2 c = simp (sym (c .before .member-at .ensures) ∙ c .if1 .left)
 
 pub place-holds-spec : {M : Type 1} → statement M
-place-holds-spec = tie.close (tie.spec member-at-requires unit-holds-requires returns returns-2)
+place-holds-spec = tie.close (tie.spec (λ c κs. search needs) (λ c κs. search needs) returns returns-2)

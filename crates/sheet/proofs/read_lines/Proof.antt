@@ -23,38 +23,20 @@ few c = omega (arith, c .read-more .ensures .1 .0, ap (λ (x : Cursor). x .lines
 room : (c : tie.After-read-more) → 750 ≤ length (c .read-more .last .1 .1 .1 .0)
 room c = omega (arith, c .read-more .kept .1 .1 .1 .0, c .before .before .before .before .before .pre .0)
 
-start-requires : tie.Need-start-requires
-start-requires c κs = search needs
-
 read-more-requires : tie.Need-read-more-requires
 read-more-requires c κs = (
   (omega arith, omega (arith, ap (λ (x : Cursor). x .lines) (c .before .start .ensures)), c .before .before .before .before .pre .0),
   λ z. rw (ap (λ (x : Cursor). x .lines) (c .before .start .ensures)) (c .before .before .before .before .pre .1),
 )
 
-same-length : tie.Need-same-length
-same-length c = search needs
-
 returns : tie.Need-returns
 returns c =
     (head-refused (c .before .before .before .before .before .before .before .before .before .args .text .now) (c .before .before .before .before .read-more .last .1 .1 .1 .0) (c .before .before .before .before .read-more .result) (head (c .before .before .before .before)) (c .if1 .taken), omega (arith, few (c .before .before .before .before)))
-
-units-read-requires : tie.Need-units-read-requires
-units-read-requires c κs = search needs
-
-mul-read-more : tie.Need-mul-read-more
-mul-read-more c = search needs
-
-add-read-more : tie.Need-add-read-more
-add-read-more c = search needs
 
 read-more-requires-2 : tie.Need-read-more-requires-2
 read-more-requires-2 c κs =
     let h = c .before .before .before .before .before .before .before in
     ((omega (arith, c .before .units-read .ensures .1), omega (arith, few h), room h), h .read-more .ensures .1 .1)
-
-same-length-2 : tie.Need-same-length-2
-same-length-2 c = search needs
 
 returns-2 : tie.Need-returns-2
 returns-2 c =
@@ -69,13 +51,11 @@ pub read-lines-spec : {M : Type 1} → statement M
 read-lines-spec =
     tie.close
     (tie.spec
-    start-requires
+    (λ c κs. search needs)
     read-more-requires
-    same-length
+    (λ c. search needs)
     returns
-    units-read-requires
-    mul-read-more
-    add-read-more
+    (λ c κs. search needs) (λ c. search needs) (λ c. search needs)
     read-more-requires-2
-    same-length-2
+    (λ c. search needs)
     returns-2)

@@ -30,25 +30,10 @@ loop-holds : tie.Need-loop-holds Inv-loop μ-loop
 unfolding readBy
 loop-holds c = (omega arith, omega arith, refl, λ s shown. shown, c .before .before .pre .1)
 
-first-at-requires : tie.Need-first-at-requires Inv-loop μ-loop
-first-at-requires c κs = search needs
-
-units-read-requires : tie.Need-units-read-requires Inv-loop μ-loop
-units-read-requires c κs = search needs
-
-row-at-requires : tie.Need-row-at-requires Inv-loop μ-loop
-row-at-requires c κs = search needs
-
 read-line-requires : tie.Need-read-line-requires Inv-loop μ-loop
 read-line-requires c κs =
     let l = c .before .before .before .before .before .before .before .loop in
     (omega (arith, l .inv .0, l .inv .1, c .before .before .before .before .before .before .before .before .before .before .pre .0), l .inv .4)
-
-add-i : tie.Need-add-i Inv-loop μ-loop
-add-i c = search needs
-
-loop-less : tie.Need-loop-less Inv-loop μ-loop
-loop-less c = search needs
 
 loop-again : tie.Need-loop-again Inv-loop μ-loop
 loop-again c =
@@ -70,9 +55,6 @@ loop-again c =
       r .ensures .1 .1,
     )
 
-same-length : tie.Need-same-length Inv-loop μ-loop
-same-length c = search needs
-
 returns : tie.Need-returns Inv-loop μ-loop
 returns c =
     let l = c .before .loop in
@@ -86,12 +68,9 @@ read-more-spec =
     Inv-loop
     μ-loop
     loop-holds
-    first-at-requires
-    units-read-requires
-    row-at-requires
+    (λ c κs. search needs) (λ c κs. search needs) (λ c κs. search needs)
     read-line-requires
-    add-i
-    loop-less
+    (λ c. search needs) (λ c. search needs)
     loop-again
-    same-length
+    (λ c. search needs)
     returns)

@@ -37,15 +37,6 @@ fits c =
     let w = start-within (g .text .now) (g .start) (begun (c .before .before .before)) in
     (omega (arith, shown c .at-is, place-in (drop (g .start) (g .text .now)), length-drop (g .start) (g .text .now)), omega (arith, c .read-lines .ensures .1))
 
-bad-start-requires : tie.Need-bad-start-requires
-bad-start-requires c κs = search needs
-
-text-refusal-requires : tie.Need-text-refusal-requires
-text-refusal-requires c κs = search needs
-
-no-sheet-requires : tie.Need-no-sheet-requires
-no-sheet-requires c κs = search needs
-
 returns : tie.Need-returns
 returns c =
     (λ i. record { answer = Refused (c .before .text-refusal .ensures i); sheet = c .no-sheet .ensures i })
@@ -57,23 +48,11 @@ sub-read-lines c = omega (arith, start-within (c .before .before .before .args .
 part-read-lines-start : tie.Need-part-read-lines-start
 part-read-lines-start c = omega (arith, start-within (c .before .before .before .args .text .now) (c .before .before .before .args .start) (begun (c)))
 
-part-read-lines-end : tie.Need-part-read-lines-end
-part-read-lines-end c = search needs
-
-slice-aggregate-read-lines : tie.Need-slice-aggregate-read-lines
-slice-aggregate-read-lines c = search needs
-
 read-lines-requires : tie.Need-read-lines-requires
 read-lines-requires c κs = (omega arith, zeros-blank 7000)
 
 answer-of-requires : tie.Need-answer-of-requires
 answer-of-requires c κs = fits (c .before .before .before)
-
-slice-aggregate-sheet-by : tie.Need-slice-aggregate-sheet-by
-slice-aggregate-sheet-by c = search needs
-
-sheet-by-requires : tie.Need-sheet-by-requires
-sheet-by-requires c κs = search needs
 
 returns-2 : tie.Need-returns-2
 returns-2 c =
@@ -89,9 +68,6 @@ returns-2 c =
 answer-of-requires-2 : tie.Need-answer-of-requires-2
 answer-of-requires-2 c κs = fits (c .before .before .before)
 
-no-sheet-requires-2 : tie.Need-no-sheet-requires-2
-no-sheet-requires-2 c κs = search needs
-
 returns-3 : tie.Need-returns-3
 returns-3 c =
     let g = c .before .before .before .before .before .before .before .before .before .before .before .args in
@@ -106,19 +82,15 @@ pub read-sheet-spec : {M : Type 1} → statement M
 read-sheet-spec =
     tie.close
     (tie.spec
-    bad-start-requires
-    text-refusal-requires
-    no-sheet-requires
+    (λ c κs. search needs) (λ c κs. search needs) (λ c κs. search needs)
     returns
     sub-read-lines
     part-read-lines-start
-    part-read-lines-end
-    slice-aggregate-read-lines
+    (λ c. search needs) (λ c. search needs)
     read-lines-requires
     answer-of-requires
-    slice-aggregate-sheet-by
-    sheet-by-requires
+    (λ c. search needs) (λ c κs. search needs)
     returns-2
     answer-of-requires-2
-    no-sheet-requires-2
+    (λ c κs. search needs)
     returns-3)

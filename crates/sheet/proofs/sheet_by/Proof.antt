@@ -18,30 +18,9 @@ Inv-loop cells units unit₀ k₀ unit k = (k ≤ 8) × (length unit ≡ 8) × (
 abbrev μ-loop : tie.MeasureT-loop
 μ-loop cells units unit₀ k₀ unit k = 8 - k
 
-first-at-requires : tie.Need-first-at-requires Inv-loop μ-loop
-first-at-requires c κs = search needs
-
-no-unit-requires : tie.Need-no-unit-requires Inv-loop μ-loop
-no-unit-requires c κs = search needs
-
 loop-holds : tie.Need-loop-holds Inv-loop μ-loop
 unfolding tabulate
 loop-holds c = (omega arith, refl, refl)
-
-place-by-requires : tie.Need-place-by-requires Inv-loop μ-loop
-place-by-requires c κs = search needs
-
-mul-unit : tie.Need-mul-unit Inv-loop μ-loop
-mul-unit c = search needs
-
-array-set-from-unit : tie.Need-array-set-from-unit Inv-loop μ-loop
-array-set-from-unit c = search needs
-
-add-k : tie.Need-add-k Inv-loop μ-loop
-add-k c = search needs
-
-loop-less : tie.Need-loop-less Inv-loop μ-loop
-loop-less c = search needs
 
 loop-again : tie.Need-loop-again Inv-loop μ-loop
 loop-again c =
@@ -51,24 +30,6 @@ loop-again c =
       simp length-set (l .inv .1),
       filled-next (placeBy (lineIn (g .cells .now)) (c .before .before .before .before .first-at .result)) (l .unit) (l .k) _ (omega arith) (l .inv .2) (c .place-by .ensures),
     )
-
-first-at-requires-2 : tie.Need-first-at-requires-2 Inv-loop μ-loop
-first-at-requires-2 c κs = search needs
-
-first-at-requires-3 : tie.Need-first-at-requires-3 Inv-loop μ-loop
-first-at-requires-3 c κs = search needs
-
-first-at-requires-4 : tie.Need-first-at-requires-4 Inv-loop μ-loop
-first-at-requires-4 c κs = search needs
-
-first-at-requires-5 : tie.Need-first-at-requires-5 Inv-loop μ-loop
-first-at-requires-5 c κs = search needs
-
-first-at-requires-6 : tie.Need-first-at-requires-6 Inv-loop μ-loop
-first-at-requires-6 c κs = search needs
-
-cpf-by-requires : tie.Need-cpf-by-requires Inv-loop μ-loop
-cpf-by-requires c κs = search needs
 
 returns : tie.Need-returns Inv-loop μ-loop
 unfolding sheetBy
@@ -97,19 +58,10 @@ sheet-by-spec =
     (tie.spec
     Inv-loop
     μ-loop
-    first-at-requires
-    no-unit-requires
+    (λ c κs. search needs) (λ c κs. search needs)
     loop-holds
-    place-by-requires
-    mul-unit
-    array-set-from-unit
-    add-k
-    loop-less
+    (λ c κs. search needs) (λ c. search needs) (λ c. search needs) (λ c. search needs) (λ c. search needs)
     loop-again
-    first-at-requires-2
-    first-at-requires-3
-    first-at-requires-4
-    first-at-requires-5
-    first-at-requires-6
-    cpf-by-requires
+    (λ c κs. search needs) (λ c κs. search needs) (λ c κs. search needs) (λ c κs. search needs) (λ c κs. search needs)
+    (λ c κs. search needs)
     returns)

@@ -7,22 +7,13 @@ use borrow.Author.Needs.{needs}
 use Rattle.sheet.proofs.sheet_holds.Statement.{statement}
 use Rattle.sheet.proofs.sheet_holds.Tie as tie
 
-date-holds-requires : tie.Need-date-holds-requires
-date-holds-requires c κs = search needs
-
 returns : tie.Need-returns
 unfolding sheetHolds
 returns c = simp (sym (c .before .date-holds .ensures) ∙ not-true _ (c .if1 .taken))
 
-rates-hold-requires : tie.Need-rates-hold-requires
-rates-hold-requires c κs = search needs
-
 returns-2 : tie.Need-returns-2
 unfolding sheetHolds
 returns-2 c = simp (sym (c .before .before .before .date-holds .ensures) ∙ not-false _ (c .before .before .if1 .left), sym (c .before .rates-hold .ensures) ∙ not-true _ (c .if2 .taken))
-
-cpf-holds-requires : tie.Need-cpf-holds-requires
-cpf-holds-requires c κs = search needs
 
 returns-3 : tie.Need-returns-3
 unfolding sheetHolds
@@ -36,9 +27,6 @@ returns-5 : tie.Need-returns-5
 unfolding sheetHolds
 returns-5 c = simp (sym (c .before .before .before .before .before .before .before .before .before .before .date-holds .ensures) ∙ not-false _ (c .before .before .before .before .before .before .before .before .before .if1 .left), sym (c .before .before .before .before .before .before .before .before .rates-hold .ensures) ∙ not-false _ (c .before .before .before .before .before .before .before .if2 .left), sym (c .before .before .before .before .before .cpf-holds .ensures) ∙ not-false _ (c .before .before .before .before .if3 .left), le-leb _ _ (c .before .before .if4 .left), lt-leb _ _ (c .if5 .taken))
 
-units-hold-requires : tie.Need-units-hold-requires
-units-hold-requires c κs = search needs
-
 returns-6 : tie.Need-returns-6
 unfolding sheetHolds
 returns-6 c = simp (sym (c .before .before .before .before .before .before .before .before .before .before .before .before .date-holds .ensures) ∙ not-false _ (c .before .before .before .before .before .before .before .before .before .before .before .if1 .left), sym (c .before .before .before .before .before .before .before .before .before .before .rates-hold .ensures) ∙ not-false _ (c .before .before .before .before .before .before .before .before .before .if2 .left), sym (c .before .before .before .before .before .before .before .cpf-holds .ensures) ∙ not-false _ (c .before .before .before .before .before .before .if3 .left), le-leb _ _ (c .before .before .before .before .if4 .left), le-leb _ _ (c .before .before .if5 .left)) (c .units-hold .ensures)
@@ -47,13 +35,13 @@ pub sheet-holds-spec : {M : Type 1} → statement M
 sheet-holds-spec =
     tie.close
     (tie.spec
-    date-holds-requires
+    (λ c κs. search needs)
     returns
-    rates-hold-requires
+    (λ c κs. search needs)
     returns-2
-    cpf-holds-requires
+    (λ c κs. search needs)
     returns-3
     returns-4
     returns-5
-    units-hold-requires
+    (λ c κs. search needs)
     returns-6)

@@ -19,39 +19,9 @@ Inv-loop cells j at offers₀ h₀ offers h = (h ≤ 24) × (length offers ≡ 2
 abbrev μ-loop : tie.MeasureT-loop
 μ-loop cells j at offers₀ h₀ offers h = 24 - h
 
-mul-at : tie.Need-mul-at Inv-loop μ-loop
-mul-at c = search needs
-
-add-at : tie.Need-add-at Inv-loop μ-loop
-add-at c = search needs
-
-no-offer-requires : tie.Need-no-offer-requires Inv-loop μ-loop
-no-offer-requires c κs = search needs
-
 loop-holds : tie.Need-loop-holds Inv-loop μ-loop
 unfolding tabulate
 loop-holds c = (omega arith, refl, refl)
-
-add-offer-by : tie.Need-add-offer-by Inv-loop μ-loop
-add-offer-by c = search needs
-
-add-offer-by-2 : tie.Need-add-offer-by-2 Inv-loop μ-loop
-add-offer-by-2 c = search needs
-
-offer-by-requires : tie.Need-offer-by-requires Inv-loop μ-loop
-offer-by-requires c κs = search needs
-
-mul-offers : tie.Need-mul-offers Inv-loop μ-loop
-mul-offers c = search needs
-
-array-set-from-offers : tie.Need-array-set-from-offers Inv-loop μ-loop
-array-set-from-offers c = search needs
-
-add-h : tie.Need-add-h Inv-loop μ-loop
-add-h c = search needs
-
-loop-less : tie.Need-loop-less Inv-loop μ-loop
-loop-less c = search needs
 
 loop-again : tie.Need-loop-again Inv-loop μ-loop
 loop-again c =
@@ -61,21 +31,6 @@ loop-again c =
       simp length-set (l .inv .1),
       filled-next (λ h. offerBy (lineIn (g .cells .now) (blockLine (g .j) + 3 + h))) (l .offers) (l .h) _ (omega arith) (l .inv .2) (c .offer-by .ensures),
     )
-
-first-at-requires : tie.Need-first-at-requires Inv-loop μ-loop
-first-at-requires c κs = search needs
-
-add-first-at : tie.Need-add-first-at Inv-loop μ-loop
-add-first-at c = search needs
-
-first-at-requires-2 : tie.Need-first-at-requires-2 Inv-loop μ-loop
-first-at-requires-2 c κs = search needs
-
-add-first-at-2 : tie.Need-add-first-at-2 Inv-loop μ-loop
-add-first-at-2 c = search needs
-
-first-at-requires-3 : tie.Need-first-at-requires-3 Inv-loop μ-loop
-first-at-requires-3 c κs = search needs
 
 returns : tie.Need-returns Inv-loop μ-loop
 unfolding unitBy
@@ -94,21 +49,10 @@ unit-by-spec =
     (tie.spec
     Inv-loop
     μ-loop
-    mul-at
-    add-at
-    no-offer-requires
+    (λ c. search needs) (λ c. search needs) (λ c κs. search needs)
     loop-holds
-    add-offer-by
-    add-offer-by-2
-    offer-by-requires
-    mul-offers
-    array-set-from-offers
-    add-h
-    loop-less
+    (λ c. search needs) (λ c. search needs) (λ c κs. search needs) (λ c. search needs) (λ c. search needs)
+    (λ c. search needs) (λ c. search needs)
     loop-again
-    first-at-requires
-    add-first-at
-    first-at-requires-2
-    add-first-at-2
-    first-at-requires-3
+    (λ c κs. search needs) (λ c. search needs) (λ c κs. search needs) (λ c. search needs) (λ c κs. search needs)
     returns)

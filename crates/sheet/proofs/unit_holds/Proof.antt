@@ -22,17 +22,11 @@ returns : tie.Need-returns
 unfolding unitHolds
 returns c = simp (lt-leb _ _ (c .if1 .taken))
 
-exceeds-requires : tie.Need-exceeds-requires
-exceeds-requires c κs = search needs
-
 returns-2 : tie.Need-returns-2
 unfolding unitHolds
 returns-2 c =
     let u = c .before .before .before .before .before .args .u in
     simp (le-leb _ _ (c .before .before .before .if1 .left), over 1 (u .nominal .0) (c .before .exceeds .ensures) (c .if2 .taken))
-
-exceeds-requires-2 : tie.Need-exceeds-requires-2
-exceeds-requires-2 c κs = search needs
 
 returns-3 : tie.Need-returns-3
 unfolding unitHolds
@@ -40,17 +34,11 @@ returns-3 c =
     let u = c .before .before .before .before .before .before .before .args .u in
     simp (le-leb _ _ (c .before .before .before .before .before .if1 .left), within 1 (u .nominal .0) (c .before .before .before .exceeds .ensures) (c .before .before .if2 .left), over (u .nominal .0) mostKwh (c .before .exceeds2 .ensures) (c .if3 .taken))
 
-exceeds-requires-3 : tie.Need-exceeds-requires-3
-exceeds-requires-3 c κs = search needs
-
 returns-4 : tie.Need-returns-4
 unfolding unitHolds
 returns-4 c =
     let u = c .before .before .before .before .before .before .before .before .before .before .args .u in
     simp (le-leb _ _ (c .before .before .before .before .before .before .before .before .if1 .left), within 1 (u .nominal .0) (c .before .before .before .before .before .before .exceeds .ensures) (c .before .before .before .before .before .if2 .left), within (u .nominal .0) mostKwh (c .before .before .before .before .exceeds2 .ensures) (c .before .before .before .if3 .left), over (u .monthly .0) mostKwh (c .before .exceeds3 .ensures) (c .if4 .taken))
-
-offers-hold-requires : tie.Need-offers-hold-requires
-offers-hold-requires c κs = search needs
 
 returns-5 : tie.Need-returns-5
 unfolding unitHolds
@@ -63,11 +51,11 @@ unit-holds-spec =
     tie.close
     (tie.spec
     returns
-    exceeds-requires
+    (λ c κs. search needs)
     returns-2
-    exceeds-requires-2
+    (λ c κs. search needs)
     returns-3
-    exceeds-requires-3
+    (λ c κs. search needs)
     returns-4
-    offers-hold-requires
+    (λ c κs. search needs)
     returns-5)

@@ -10,29 +10,17 @@ use borrow.Author.Needs.{needs}
 use Rattle.sheet.proofs.unit_row.Statement.{statement}
 use Rattle.sheet.proofs.unit_row.Tie as tie
 
-number-row-requires : tie.Need-number-row-requires
-number-row-requires c κs = search needs
-
 returns : tie.Need-returns
 unfolding unitRows
 returns c = c .number-row .ensures ∙ ap (λ (n : ℕ). getD unitRows n endRow) (sym (c .before .before .before .if1 .taken))
-
-number-row-requires-2 : tie.Need-number-row-requires-2
-number-row-requires-2 c κs = search needs
 
 returns-2 : tie.Need-returns-2
 unfolding unitRows
 returns-2 c = c .number-row2 .ensures ∙ ap (λ (n : ℕ). getD unitRows n endRow) (sym (c .before .before .before .if2 .taken))
 
-number-row-requires-3 : tie.Need-number-row-requires-3
-number-row-requires-3 c κs = search needs
-
 returns-3 : tie.Need-returns-3
 unfolding unitRows
 returns-3 c = c .number-row3 .ensures ∙ ap (λ (n : ℕ). getD unitRows n endRow) (sym (c .before .before .before .if3 .taken))
-
-offer-row-requires : tie.Need-offer-row-requires
-offer-row-requires c κs = search needs
 
 returns-4 : tie.Need-returns-4
 returns-4 c =
@@ -42,11 +30,11 @@ pub unit-row-spec : {M : Type 1} → statement M
 unit-row-spec =
     tie.close
     (tie.spec
-    number-row-requires
+    (λ c κs. search needs)
     returns
-    number-row-requires-2
+    (λ c κs. search needs)
     returns-2
-    number-row-requires-3
+    (λ c κs. search needs)
     returns-3
-    offer-row-requires
+    (λ c κs. search needs)
     returns-4)

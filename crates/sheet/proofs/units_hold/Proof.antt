@@ -22,23 +22,8 @@ loop-holds : tie.Need-loop-holds Inv-loop μ-loop
 unfolding every
 loop-holds c = (omega arith, refl)
 
-mul-u : tie.Need-mul-u Inv-loop μ-loop
-mul-u c = search needs
-
-array-copy-out-u : tie.Need-array-copy-out-u Inv-loop μ-loop
-array-copy-out-u c = search needs
-
-place-holds-requires : tie.Need-place-holds-requires Inv-loop μ-loop
-place-holds-requires c κs = search needs
-
 returns : tie.Need-returns Inv-loop μ-loop
 returns c = sym (every-fails 8 (c .before .before .before .before .loop .k) (λ k. placeHolds (c .before .before .before .before .before .args .units) k (unitAt (c .before .before .before .before .before .args .t2) k)) (omega arith) (sym (c .before .place-holds .ensures) ∙ not-true _ (c .if1 .taken)))
-
-add-k : tie.Need-add-k Inv-loop μ-loop
-add-k c = search needs
-
-loop-less : tie.Need-loop-less Inv-loop μ-loop
-loop-less c = search needs
 
 loop-again : tie.Need-loop-again Inv-loop μ-loop
 loop-again c =
@@ -58,11 +43,8 @@ units-hold-spec =
     Inv-loop
     μ-loop
     loop-holds
-    mul-u
-    array-copy-out-u
-    place-holds-requires
+    (λ c. search needs) (λ c. search needs) (λ c κs. search needs)
     returns
-    add-k
-    loop-less
+    (λ c. search needs) (λ c. search needs)
     loop-again
     returns-2)

@@ -7,9 +7,6 @@ use borrow.Author.Needs.{needs}
 use Rattle.sheet.proofs.units_read.Statement.{statement}
 use Rattle.sheet.proofs.units_read.Tie as tie
 
-first-at-requires : tie.Need-first-at-requires
-first-at-requires c κs = search needs
-
 cast-result : tie.Need-cast-result
 cast-result c = omega (arith, ones-le 64 (c .first-at .result) (omega (arith, c .first-at .ok)))
 
@@ -17,4 +14,4 @@ returns : tie.Need-returns
 returns c = (ap ones (c .first-at .ensures), ones-le 64 (c .first-at .result) (omega (arith, c .first-at .ok)))
 
 pub units-read-spec : {M : Type 1} → statement M
-units-read-spec = tie.close (tie.spec first-at-requires cast-result returns)
+units-read-spec = tie.close (tie.spec (λ c κs. search needs) cast-result returns)

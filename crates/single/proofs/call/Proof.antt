@@ -10,12 +10,6 @@ use borrow.Author.Needs.{needs}
 use Rattle.single.proofs.call.Statement.{statement}
 use Rattle.single.proofs.call.Tie as tie
 
-decode-requires : tie.Need-decode-requires
-decode-requires c κs = search needs
-
-decide-requires : tie.Need-decide-requires
-decide-requires c κs = search needs
-
 returns : tie.Need-returns
 returns c =
     let a = c .before .before .before .args in
@@ -23,4 +17,4 @@ returns c =
     subst (λ (x : Call). Decides (a .sheet) (a .book) (a .count) (a .places) x (c .decide .result)) e (c .decide .ensures)
 
 pub call-spec : {M : Type 1} → statement M
-call-spec = tie.close (tie.spec decode-requires decide-requires returns)
+call-spec = tie.close (tie.spec (λ c κs. search needs) (λ c κs. search needs) returns)

@@ -7,15 +7,6 @@ use borrow.Author.Needs.{needs}
 use Rattle.single.proofs.checked.Statement.{statement}
 use Rattle.single.proofs.checked.Tie as tie
 
-returns : tie.Need-returns
-returns c = search needs
-
-twelve-or-9-requires : tie.Need-twelve-or-9-requires
-twelve-or-9-requires c κs = search needs
-
-refused-call-requires : tie.Need-refused-call-requires
-refused-call-requires c κs = search needs
-
 returns-2 : tie.Need-returns-2
 returns-2 c =
     c .refused-call .ensures
@@ -23,4 +14,4 @@ returns-2 c =
     ∙ sym (ap (λ (g : Bool). checkedBy g (c .before .before .before .args .book) (c .before .before .before .args .count) (c .before .before .before .args .d)) (c .before .before .if1 .left)))
 
 pub checked-spec : {M : Type 1} → statement M
-checked-spec = tie.close (tie.spec returns twelve-or-9-requires refused-call-requires returns-2)
+checked-spec = tie.close (tie.spec (λ c. search needs) (λ c κs. search needs) (λ c κs. search needs) returns-2)

@@ -13,15 +13,6 @@ use borrow.Author.Needs.{needs}
 use Rattle.single.proofs.decide.Statement.{statement}
 use Rattle.single.proofs.decide.Tie as tie
 
-start-of-requires : tie.Need-start-of-requires
-start-of-requires c κs = search needs
-
-sheet-holds-requires : tie.Need-sheet-holds-requires
-sheet-holds-requires c κs = search needs
-
-refused-call-requires : tie.Need-refused-call-requires
-refused-call-requires c κs = search needs
-
 returns : tie.Need-returns
 returns c =
     let a = c .before .before .before .before .before .args in
@@ -30,12 +21,6 @@ returns c =
     subst (Decides (a .sheet) (a .book) (a .count) (a .places) x) (sym (c .refused-call .ensures))
     (refused-9 (a .sheet) (a .book) x (a .count) (a .places) nine _
     (c .before .before .before .start-of .ensures ∙ start-is (now (a .text)) (a .call)))
-
-book-fits-requires : tie.Need-book-fits-requires
-book-fits-requires c κs = search needs
-
-refused-call-requires-2 : tie.Need-refused-call-requires-2
-refused-call-requires-2 c κs = search needs
 
 returns-2 : tie.Need-returns-2
 returns-2 c =
@@ -57,19 +42,13 @@ decide-in-range-requires c κs =
     let holds = test-holds (s .result) (sheetHolds (a .sheet)) (s .ensures) (c .before .before .if1 .left) in
     (holds, test-holds (f .result) (bookFits (a .sheet) (a .book) (a .count) (a .places) true) (f .ensures) (c .if2 .left))
 
-returns-3 : tie.Need-returns-3
-returns-3 c = search needs
-
 pub decide-spec : {M : Type 1} → statement M
 decide-spec =
     tie.close
     (tie.spec
-    start-of-requires
-    sheet-holds-requires
-    refused-call-requires
+    (λ c κs. search needs) (λ c κs. search needs) (λ c κs. search needs)
     returns
-    book-fits-requires
-    refused-call-requires-2
+    (λ c κs. search needs) (λ c κs. search needs)
     returns-2
     decide-in-range-requires
-    returns-3)
+    (λ c. search needs))

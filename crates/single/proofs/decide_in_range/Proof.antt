@@ -73,58 +73,13 @@ carried c =
     matches (a .sheet) (a .book) (a .count) (a .places) _ _ (numbers (c .before)) (handed (c .before)) (asked s) (replicate 640 (pos 0)) (left c) (rows c)
     (c .carry-out .result) (c .carry-out .ensures)
 
-terms-of-requires : tie.Need-terms-of-requires
-terms-of-requires c κs = search needs
-
-offer-numbers-requires : tie.Need-offer-numbers-requires
-offer-numbers-requires c κs = search needs
-
-kwh-of-requires : tie.Need-kwh-of-requires
-kwh-of-requires c κs = search needs
-
-grains-of-requires : tie.Need-grains-of-requires
-grains-of-requires c κs = search needs
-
-amount-numbers-requires : tie.Need-amount-numbers-requires
-amount-numbers-requires c κs = search needs
-
-slice-aggregate-carry-out : tie.Need-slice-aggregate-carry-out
-slice-aggregate-carry-out c = search needs
-
 slice-aggregate-carry-out-2 : tie.Need-slice-aggregate-carry-out-2
 slice-aggregate-carry-out-2 c = sym (sized (c .before .before .before .before .before .before .before .before .before .before .before .before) .mark)
-
-slice-aggregate-carry-out-3 : tie.Need-slice-aggregate-carry-out-3
-slice-aggregate-carry-out-3 c = search needs
-
-slice-aggregate-carry-out-4 : tie.Need-slice-aggregate-carry-out-4
-slice-aggregate-carry-out-4 c = search needs
-
-slice-aggregate-carry-out-5 : tie.Need-slice-aggregate-carry-out-5
-slice-aggregate-carry-out-5 c = search needs
-
-slice-aggregate-carry-out-6 : tie.Need-slice-aggregate-carry-out-6
-slice-aggregate-carry-out-6 c = search needs
 
 carry-out-requires : tie.Need-carry-out-requires
 carry-out-requires c κs =
     let a = entry c .args in
     ready (a .sheet) (a .book) (a .count) (a .places) _ _ (numbers c) (handed c) _ (omega arith)
-
-array-write-hours : tie.Need-array-write-hours
-array-write-hours c = search needs
-
-posted-of-requires : tie.Need-posted-of-requires
-posted-of-requires c κs = search needs
-
-slice-aggregate-rows-of : tie.Need-slice-aggregate-rows-of
-slice-aggregate-rows-of c = search needs
-
-slice-aggregate-rows-of-2 : tie.Need-slice-aggregate-rows-of-2
-slice-aggregate-rows-of-2 c = search needs
-
-entries-of-requires : tie.Need-entries-of-requires
-entries-of-requires c κs = search needs
 
 rows-of-requires : tie.Need-rows-of-requires
 rows-of-requires c κs =
@@ -134,12 +89,6 @@ rows-of-requires c κs =
     let few = one-entry (x .carry-out .result .answer) in
     (omega (arith, most), omega (arith, few, c .entries-of .ensures), refl, c .before .before .before .before .rows2 .given)
 
-first-at-requires : tie.Need-first-at-requires
-first-at-requires c κs = search needs
-
-start-of-requires : tie.Need-start-of-requires
-start-of-requires c κs = search needs
-
 add-t48 : tie.Need-add-t48
 add-t48 c =
     let x = c .before .before .before .before .before .before .before .before .before .before .before .before in
@@ -147,18 +96,6 @@ add-t48 c =
     let a = s .args in
     let most = posted-most (a .sheet) (a .book) (asked s) (a .count) (a .places) (s .pre .0) (s .pre .1) _ _ _ _ (carried x) in
     record { fits = omega (arith, most, c .before .before .before .before .before .before .posted-of .ensures) }
-
-slice-aggregate-book-by : tie.Need-slice-aggregate-book-by
-slice-aggregate-book-by c = search needs
-
-slice-aggregate-book-by-2 : tie.Need-slice-aggregate-book-by-2
-slice-aggregate-book-by-2 c = search needs
-
-slice-aggregate-book-by-3 : tie.Need-slice-aggregate-book-by-3
-slice-aggregate-book-by-3 c = search needs
-
-book-by-requires : tie.Need-book-by-requires
-book-by-requires c κs = search needs
 
 returns : tie.Need-returns
 returns c =
@@ -173,29 +110,14 @@ pub decide-in-range-spec : {M : Type 1} → statement M
 decide-in-range-spec =
     tie.close
     (tie.spec
-    terms-of-requires
-    offer-numbers-requires
-    kwh-of-requires
-    grains-of-requires
-    amount-numbers-requires
-    slice-aggregate-carry-out
+    (λ c κs. search needs) (λ c κs. search needs) (λ c κs. search needs) (λ c κs. search needs) (λ c κs. search needs)
+    (λ c. search needs)
     slice-aggregate-carry-out-2
-    slice-aggregate-carry-out-3
-    slice-aggregate-carry-out-4
-    slice-aggregate-carry-out-5
-    slice-aggregate-carry-out-6
+    (λ c. search needs) (λ c. search needs) (λ c. search needs) (λ c. search needs)
     carry-out-requires
-    array-write-hours
-    posted-of-requires
-    slice-aggregate-rows-of
-    slice-aggregate-rows-of-2
-    entries-of-requires
+    (λ c. search needs) (λ c κs. search needs) (λ c. search needs) (λ c. search needs) (λ c κs. search needs)
     rows-of-requires
-    first-at-requires
-    start-of-requires
+    (λ c κs. search needs) (λ c κs. search needs)
     add-t48
-    slice-aggregate-book-by
-    slice-aggregate-book-by-2
-    slice-aggregate-book-by-3
-    book-by-requires
+    (λ c. search needs) (λ c. search needs) (λ c. search needs) (λ c κs. search needs)
     returns)

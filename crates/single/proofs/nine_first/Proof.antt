@@ -39,9 +39,6 @@ twelve HourStands h = refl
 twelve HourOpen h = refl
 twelve NoPlaces h = refl
 
-enum-told : tie.Need-enum-told
-enum-told c = search needs
-
 returns : tie.Need-returns
 unfolding nineFirst
 returns c = sym (ap nineFirst (c .enum-told .given .1))
@@ -50,4 +47,4 @@ returns-2 : tie.Need-returns-2
 returns-2 c = twelve (c .before .args .refusal) (c .match .keys2)
 
 pub nine-first-spec : {M : Type 1} → statement M
-nine-first-spec = tie.close (tie.spec enum-told returns returns-2)
+nine-first-spec = tie.close (tie.spec (λ c. search needs) returns returns-2)

@@ -5,11 +5,8 @@ use Rattle.single.specs.Single.{mostRows}
 use Rattle.single.proofs.no_rows.Statement.{statement}
 use Rattle.single.proofs.no_rows.Tie as tie
 
-no-posting-requires : tie.Need-no-posting-requires
-no-posting-requires c κs = search needs
-
 returns : tie.Need-returns
 returns c = ap (replicate mostRows) (c .no-posting .ensures)
 
 pub no-rows-spec : {M : Type 1} → statement M
-no-rows-spec = tie.close (tie.spec no-posting-requires returns)
+no-rows-spec = tie.close (tie.spec (λ c κs. search needs) returns)

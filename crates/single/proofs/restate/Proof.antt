@@ -11,9 +11,6 @@ use borrow.Author.Needs.{needs}
 use Rattle.single.proofs.restate.Statement.{statement}
 use Rattle.single.proofs.restate.Tie as tie
 
-decide-requires : tie.Need-decide-requires
-decide-requires c κs = search needs
-
 returns : tie.Need-returns
 returns c =
     let a = c .before .before .args in
@@ -21,4 +18,4 @@ returns c =
     (c .decide .ensures)
 
 pub restate-spec : {M : Type 1} → statement M
-restate-spec = tie.close (tie.spec decide-requires returns)
+restate-spec = tie.close (tie.spec (λ c κs. search needs) returns)

@@ -25,26 +25,11 @@ loop-holds : tie.Need-loop-holds Inv-loop μ-loop
 unfolding every
 loop-holds c = (omega arith, refl)
 
-mul-a : tie.Need-mul-a Inv-loop μ-loop
-mul-a c = search needs
-
-array-copy-out-a : tie.Need-array-copy-out-a Inv-loop μ-loop
-array-copy-out-a c = search needs
-
-items-hold-requires : tie.Need-items-hold-requires Inv-loop μ-loop
-items-hold-requires c κs = search needs
-
 returns : tie.Need-returns Inv-loop μ-loop
 returns c =
     let l = c .before .before .before .before .loop in
     let a = c .before .before .before .before .before .args in
     sym (every-fails entries (l .j) (λ j. itemsHold (getD (a .t1) j pastAmounts)) (omega arith) (sym (c .before .items-hold .ensures) ∙ not-true _ (c .if1 .taken)))
-
-add-j : tie.Need-add-j Inv-loop μ-loop
-add-j c = search needs
-
-loop-less : tie.Need-loop-less Inv-loop μ-loop
-loop-less c = search needs
 
 loop-again : tie.Need-loop-again Inv-loop μ-loop
 loop-again c =
@@ -66,11 +51,8 @@ amounts-hold-spec =
     Inv-loop
     μ-loop
     loop-holds
-    mul-a
-    array-copy-out-a
-    items-hold-requires
+    (λ c. search needs) (λ c. search needs) (λ c κs. search needs)
     returns
-    add-j
-    loop-less
+    (λ c. search needs) (λ c. search needs)
     loop-again
     returns-2)

@@ -14,12 +14,6 @@ use borrow.Author.Needs.{needs}
 use Rattle.state.proofs.book_holds.Statement.{statement}
 use Rattle.state.proofs.book_holds.Tie as tie
 
-kwh-of-requires : tie.Need-kwh-of-requires
-kwh-of-requires c κs = search needs
-
-slice-aggregate-commitments-hold : tie.Need-slice-aggregate-commitments-hold
-slice-aggregate-commitments-hold c = search needs
-
 kept : (c : tie.After-commitments-hold) → c .commitments-hold .result ≡ commitmentsHold (c .before .before .before .before .args .sheet .units) (c .before .before .before .before .args .sheet .unit) (c .before .before .before .before .args .book .commitment)
 kept c =
     let a = c .before .before .before .before .args in
@@ -27,29 +21,17 @@ kept c =
     ∙ ap (λ (l : List ℕ). every places (λ k. keptTo (memberAt (a .sheet .units) k) (unitAt (a .sheet .unit) k) l k)) (c .before .before .kwh-of .ensures)
     ∙ kept-commitments (a .sheet .units) (a .sheet .unit) (a .book .commitment)
 
-commitments-hold-requires : tie.Need-commitments-hold-requires
-commitments-hold-requires c κs = search needs
-
 returns : tie.Need-returns
 unfolding bookHolds
 returns c = simp (sym (kept (c .before)) ∙ not-true _ (c .if1 .taken))
-
-marks-hold-requires : tie.Need-marks-hold-requires
-marks-hold-requires c κs = search needs
 
 returns-2 : tie.Need-returns-2
 unfolding bookHolds
 returns-2 c = simp (sym (kept (c .before .before .before .before)) ∙ not-false _ (c .before .before .before .if1 .left), sym (c .before .marks-hold .ensures) ∙ not-true _ (c .if2 .taken))
 
-energies-hold-requires : tie.Need-energies-hold-requires
-energies-hold-requires c κs = search needs
-
 returns-3 : tie.Need-returns-3
 unfolding bookHolds
 returns-3 c = simp (sym (kept (c .before .before .before .before .before .before .before)) ∙ not-false _ (c .before .before .before .before .before .before .if1 .left), sym (c .before .before .before .before .marks-hold .ensures) ∙ not-false _ (c .before .before .before .if2 .left), sym (c .before .energies-hold .ensures) ∙ not-true _ (c .if3 .taken))
-
-amounts-hold-requires : tie.Need-amounts-hold-requires
-amounts-hold-requires c κs = search needs
 
 returns-4 : tie.Need-returns-4
 unfolding bookHolds
@@ -59,13 +41,11 @@ pub book-holds-spec : {M : Type 1} → statement M
 book-holds-spec =
     tie.close
     (tie.spec
-    kwh-of-requires
-    slice-aggregate-commitments-hold
-    commitments-hold-requires
+    (λ c κs. search needs) (λ c. search needs) (λ c κs. search needs)
     returns
-    marks-hold-requires
+    (λ c κs. search needs)
     returns-2
-    energies-hold-requires
+    (λ c κs. search needs)
     returns-3
-    amounts-hold-requires
+    (λ c κs. search needs)
     returns-4)

@@ -26,26 +26,11 @@ loop-holds : tie.Need-loop-holds Inv-loop μ-loop
 unfolding every
 loop-holds c = (omega arith, refl)
 
-mul-grains : tie.Need-mul-grains Inv-loop μ-loop
-mul-grains c = search needs
-
-array-copy-out-grains : tie.Need-array-copy-out-grains Inv-loop μ-loop
-array-copy-out-grains c = search needs
-
-exceeds-requires : tie.Need-exceeds-requires Inv-loop μ-loop
-exceeds-requires c κs = search needs
-
 returns : tie.Need-returns Inv-loop μ-loop
 returns c =
     let l = c .before .before .before .before .loop in
     let a = c .before .before .before .before .before .args in
     sym (every-fails entries (l .at) (λ j. leb (getD (a .t1) j noGrains .0) mostEnergy) (omega arith) (lt-leb _ _ (ltb-true mostEnergy (getD (a .t1) (l .at) noGrains .0) (sym (c .before .exceeds .ensures) ∙ c .if1 .taken))))
-
-add-at : tie.Need-add-at Inv-loop μ-loop
-add-at c = search needs
-
-loop-less : tie.Need-loop-less Inv-loop μ-loop
-loop-less c = search needs
 
 loop-again : tie.Need-loop-again Inv-loop μ-loop
 loop-again c =
@@ -67,11 +52,8 @@ energies-hold-spec =
     Inv-loop
     μ-loop
     loop-holds
-    mul-grains
-    array-copy-out-grains
-    exceeds-requires
+    (λ c. search needs) (λ c. search needs) (λ c κs. search needs)
     returns
-    add-at
-    loop-less
+    (λ c. search needs) (λ c. search needs)
     loop-again
     returns-2)

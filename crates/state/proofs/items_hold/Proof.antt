@@ -26,26 +26,11 @@ loop-holds : tie.Need-loop-holds Inv-loop μ-loop
 unfolding every
 loop-holds c = (omega arith, refl)
 
-mul-within : tie.Need-mul-within Inv-loop μ-loop
-mul-within c = search needs
-
-element-copy-out-within : tie.Need-element-copy-out-within Inv-loop μ-loop
-element-copy-out-within c = search needs
-
-within-requires : tie.Need-within-requires Inv-loop μ-loop
-within-requires c κs = search needs
-
 returns : tie.Need-returns Inv-loop μ-loop
 returns c =
     let l = c .before .before .before .before .loop in
     let a = c .before .before .before .before .before .args in
     sym (every-fails items (l .i) (λ i. within (itemOf (a .t1) i) mostAmount) (omega arith) (sym (ap (λ (z : ℤ). within z mostAmount) (back (itemOf (a .t1) (l .i)) (c .before .before .within-arg .given))) ∙ sym (c .before .within .ensures) ∙ not-true _ (c .if1 .taken)))
-
-add-i : tie.Need-add-i Inv-loop μ-loop
-add-i c = search needs
-
-loop-less : tie.Need-loop-less Inv-loop μ-loop
-loop-less c = search needs
 
 loop-again : tie.Need-loop-again Inv-loop μ-loop
 loop-again c =
@@ -67,11 +52,8 @@ items-hold-spec =
     Inv-loop
     μ-loop
     loop-holds
-    mul-within
-    element-copy-out-within
-    within-requires
+    (λ c. search needs) (λ c. search needs) (λ c κs. search needs)
     returns
-    add-i
-    loop-less
+    (λ c. search needs) (λ c. search needs)
     loop-again
     returns-2)

@@ -23,24 +23,6 @@ loop-holds : tie.Need-loop-holds Inv-loop μ-loop
 unfolding tabulate
 loop-holds c = (omega arith, refl, refl)
 
-mul-held : tie.Need-mul-held Inv-loop μ-loop
-mul-held c = search needs
-
-array-copy-out-held : tie.Need-array-copy-out-held Inv-loop μ-loop
-array-copy-out-held c = search needs
-
-mul-kwh : tie.Need-mul-kwh Inv-loop μ-loop
-mul-kwh c = search needs
-
-array-write-kwh : tie.Need-array-write-kwh Inv-loop μ-loop
-array-write-kwh c = search needs
-
-add-i : tie.Need-add-i Inv-loop μ-loop
-add-i c = search needs
-
-loop-less : tie.Need-loop-less Inv-loop μ-loop
-loop-less c = search needs
-
 loop-again : tie.Need-loop-again Inv-loop μ-loop
 loop-again c =
     let a = c .before .before .before .args in
@@ -64,11 +46,7 @@ kwh-of-spec =
     Inv-loop
     μ-loop
     loop-holds
-    mul-held
-    array-copy-out-held
-    mul-kwh
-    array-write-kwh
-    add-i
-    loop-less
+    (λ c. search needs) (λ c. search needs) (λ c. search needs) (λ c. search needs) (λ c. search needs)
+    (λ c. search needs)
     loop-again
     returns)

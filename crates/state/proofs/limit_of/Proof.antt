@@ -5,9 +5,6 @@ use borrow.Author.Needs.{needs}
 use Rattle.state.proofs.limit_of.Statement.{statement}
 use Rattle.state.proofs.limit_of.Tie as tie
 
-last-quantity-requires : tie.Need-last-quantity-requires
-last-quantity-requires c κs = search needs
-
 returns : tie.Need-returns
 unfolding limitOf
 returns c = simp (c .before .if1 .taken) (c .last-quantity .ensures)
@@ -17,4 +14,4 @@ unfolding limitOf
 returns-2 c = simp (c .if1 .left)
 
 pub limit-of-spec : {M : Type 1} → statement M
-limit-of-spec = tie.close (tie.spec last-quantity-requires returns returns-2)
+limit-of-spec = tie.close (tie.spec (λ c κs. search needs) returns returns-2)

@@ -27,41 +27,11 @@ loop-holds : tie.Need-loop-holds Inv-loop μ-loop
 unfolding every
 loop-holds c = (omega arith, refl)
 
-mul-held : tie.Need-mul-held Inv-loop μ-loop
-mul-held c = search needs
-
-add-held : tie.Need-add-held Inv-loop μ-loop
-add-held c = search needs
-
-mul-held-2 : tie.Need-mul-held-2 Inv-loop μ-loop
-mul-held-2 c = search needs
-
-shared-slice-read-held : tie.Need-shared-slice-read-held Inv-loop μ-loop
-shared-slice-read-held c = search needs
-
-mul-o : tie.Need-mul-o Inv-loop μ-loop
-mul-o c = search needs
-
-element-copy-out-o : tie.Need-element-copy-out-o Inv-loop μ-loop
-element-copy-out-o c = search needs
-
-limit-of-requires : tie.Need-limit-of-requires Inv-loop μ-loop
-limit-of-requires c κs = search needs
-
-exceeds-requires : tie.Need-exceeds-requires Inv-loop μ-loop
-exceeds-requires c κs = search needs
-
 returns : tie.Need-returns Inv-loop μ-loop
 returns c =
     let l = c .before .before .before .before .before .before .before .loop in
     let a = c .before .before .before .before .before .before .before .before .before .args in
     sym (every-fails hours (l .h) (λ h. leb (getD (a .kwh .now) (entryOf h (a .k)) 0) (limitOf (a .member) (offerAt (a .t2) h) .0)) (omega arith) (rw (← c .before .before .limit-of .ensures) (lt-leb _ _ (ltb-true (c .before .before .limit-of .result .0) (getD (a .kwh .now) (entryOf (l .h) (a .k)) 0) (sym (c .before .exceeds .ensures) ∙ c .if2 .taken)))))
-
-add-h : tie.Need-add-h Inv-loop μ-loop
-add-h c = search needs
-
-loop-less : tie.Need-loop-less Inv-loop μ-loop
-loop-less c = search needs
 
 loop-again : tie.Need-loop-again Inv-loop μ-loop
 loop-again c =
@@ -88,16 +58,9 @@ place-holds-spec =
     Inv-loop
     μ-loop
     loop-holds
-    mul-held
-    add-held
-    mul-held-2
-    shared-slice-read-held
-    mul-o
-    element-copy-out-o
-    limit-of-requires
-    exceeds-requires
+    (λ c. search needs) (λ c. search needs) (λ c. search needs) (λ c. search needs) (λ c. search needs)
+    (λ c. search needs) (λ c κs. search needs) (λ c κs. search needs)
     returns
-    add-h
-    loop-less
+    (λ c. search needs) (λ c. search needs)
     loop-again
     returns-2)

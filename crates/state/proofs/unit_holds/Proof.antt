@@ -14,9 +14,6 @@ use borrow.Author.Needs.{needs}
 use Rattle.state.proofs.unit_holds.Statement.{statement}
 use Rattle.state.proofs.unit_holds.Tie as tie
 
-is-committed-requires : tie.Need-is-committed-requires
-is-committed-requires c κs = search needs
-
 returns : tie.Need-returns
 returns c =
     let a = c .before .before .before .args in
@@ -24,12 +21,6 @@ returns c =
     (λ h l.
     let none = c .before .is-committed .ensures (not-true _ (c .if1 .taken)) h l in
     le-leb (getD (a .kwh .now) (entryOf h (a .k)) 0) (limitOf (memberAt (a .units) (a .k)) (offerAt (a .u) h) .0) (omega arith)))
-
-member-at-requires : tie.Need-member-at-requires
-member-at-requires c κs = search needs
-
-place-holds-requires : tie.Need-place-holds-requires
-place-holds-requires c κs = search needs
 
 returns-2 : tie.Need-returns-2
 returns-2 c =
@@ -39,4 +30,8 @@ returns-2 c =
 pub unit-holds-spec : {M : Type 1} → statement M
 unit-holds-spec =
     tie.close
-    (tie.spec is-committed-requires returns member-at-requires place-holds-requires returns-2)
+    (tie.spec
+    (λ c κs. search needs)
+    returns
+    (λ c κs. search needs) (λ c κs. search needs)
+    returns-2)

@@ -11,9 +11,6 @@ use borrow.Author.Needs.{needs}
 use Rattle.state.proofs.within.Statement.{statement}
 use Rattle.state.proofs.within.Tie as tie
 
-cast-high : tie.Need-cast-high
-cast-high c = search needs
-
 returns : tie.Need-returns
 returns c =
     sym (above (c .before .args .amount) (c .before .args .most) (rw (toZ-pos w64 (c .before .pre), toZ-ofZ (c .before .fits .amount)) at (c .if1 .taken)))
@@ -31,4 +28,4 @@ returns-2 c =
     (not-above z n (rw (toZ-pos w64 (c .before .pre), toZ-ofZ (c .before .fits .amount)) at (c .if1 .left)))
 
 pub within-spec : {M : Type 1} → statement M
-within-spec = tie.close (tie.spec cast-high returns sub-result returns-2)
+within-spec = tie.close (tie.spec (λ c. search needs) returns sub-result returns-2)

@@ -36,12 +36,6 @@ module _ (v : List ℕ) (from high n i : ℕ) (e : digits high n (partBytes v i)
 loop-holds : tie.Need-loop-holds Inv-loop μ-loop
 loop-holds c = (refl, refl)
 
-shared-slice-read-x : tie.Need-shared-slice-read-x Inv-loop μ-loop
-shared-slice-read-x c = search needs
-
-part-read-requires : tie.Need-part-read-requires Inv-loop μ-loop
-part-read-requires c κs = search needs
-
 returns : tie.Need-returns Inv-loop μ-loop
 returns c =
     let g = c .before .before .before .before .before .before .before .args in
@@ -51,9 +45,6 @@ returns c =
     read (c .part-read .result) v (g .from) (digits (g .high) 0 (partBytes v (g .from))) (l .n) (l .i) (c .part-read .ensures)
     (ended v (g .from) (g .high) (l .n) (l .i) (l .inv .1) (bytes-at-comma v (l .i) (omega arith) (c .before .if2 .taken)))
     (omega (arith, s, l .inv .0))
-
-part-refused-requires : tie.Need-part-refused-requires Inv-loop μ-loop
-part-refused-requires c κs = search needs
 
 returns-2 : tie.Need-returns-2 Inv-loop μ-loop
 returns-2 c =
@@ -65,9 +56,6 @@ returns-2 c =
     (spoilt v (g .from) (g .high) (l .n) (l .i) (l .inv .1) x (partBytes v (l .i + 1)) (bytes-on v (l .i) (omega arith) (λ q. omega (arith, c .before .before .if1 .taken)) (c .before .if2 .left))
     (low (g .high) (l .n) x (partBytes v (l .i + 1)) (c .before .before .if1 .taken)))
 
-part-read-requires-2 : tie.Need-part-read-requires-2 Inv-loop μ-loop
-part-read-requires-2 c κs = search needs
-
 returns-3 : tie.Need-returns-3 Inv-loop μ-loop
 returns-3 c =
     let g = c .before .before .before .before .before .before .before .before .args in
@@ -77,9 +65,6 @@ returns-3 c =
     read (c .part-read2 .result) v (g .from) (digits (g .high) 0 (partBytes v (g .from))) (l .n) (l .i) (c .part-read2 .ensures)
     (ended v (g .from) (g .high) (l .n) (l .i) (l .inv .1) (bytes-at-colon v (l .i) (omega arith) (c .before .if4 .taken)))
     (omega (arith, s, l .inv .0))
-
-part-refused-requires-2 : tie.Need-part-refused-requires-2 Inv-loop μ-loop
-part-refused-requires-2 c κs = search needs
 
 returns-4 : tie.Need-returns-4 Inv-loop μ-loop
 returns-4 c =
@@ -91,14 +76,8 @@ returns-4 c =
     (spoilt v (g .from) (g .high) (l .n) (l .i) (l .inv .1) x (partBytes v (l .i + 1)) (bytes-on v (l .i) (omega arith) (c .before .if4 .left) (λ q. omega (arith, c .before .before .if3 .taken)))
     (up (g .high) (l .n) x (partBytes v (l .i + 1)) (omega (arith, c .before .before .before .if1 .left)) (omega (arith, c .before .before .if3 .taken))))
 
-wide-requires : tie.Need-wide-requires Inv-loop μ-loop
-wide-requires c κs = search needs
-
 within-requires : tie.Need-within-requires Inv-loop μ-loop
 within-requires c κs = omega (arith, c .wide .ensures)
-
-part-refused-requires-3 : tie.Need-part-refused-requires-3 Inv-loop μ-loop
-part-refused-requires-3 c κs = search needs
 
 returns-5 : tie.Need-returns-5 Inv-loop μ-loop
 returns-5 c =
@@ -121,12 +100,6 @@ mul-n c = omega (arith, fits (c .before) (not-false _ (c .if5 .left)), c .before
 add-n : tie.Need-add-n Inv-loop μ-loop
 add-n c = omega (arith, fits (c .before) (not-false _ (c .if5 .left)), c .before .before .before .before .before .before .before .before .before .fits .high)
 
-add-i : tie.Need-add-i Inv-loop μ-loop
-add-i c = search needs
-
-loop-less : tie.Need-loop-less Inv-loop μ-loop
-loop-less c = search needs
-
 loop-again : tie.Need-loop-again Inv-loop μ-loop
 loop-again c =
     let g = c .before .before .before .before .before .before .before .before .before .args in
@@ -141,9 +114,6 @@ loop-again c =
           ∙ (sym (digit (g .high) (l .n) x (partBytes v (l .i + 1)) (omega arith) (omega arith) within)
           ∙ (sym (ap (digits (g .high) (l .n)) (bytes-on v (l .i) (omega arith) (λ q. omega arith) (λ q. omega arith))) ∙ l .inv .1)),
     )
-
-part-read-requires-3 : tie.Need-part-read-requires-3 Inv-loop μ-loop
-part-read-requires-3 c κs = search needs
 
 returns-6 : tie.Need-returns-6 Inv-loop μ-loop
 returns-6 c =
@@ -162,23 +132,21 @@ digits-at-spec =
     Inv-loop
     μ-loop
     loop-holds
-    shared-slice-read-x
-    part-read-requires
+    (λ c. search needs) (λ c κs. search needs)
     returns
-    part-refused-requires
+    (λ c κs. search needs)
     returns-2
-    part-read-requires-2
+    (λ c κs. search needs)
     returns-3
-    part-refused-requires-2
+    (λ c κs. search needs)
     returns-4
-    wide-requires
+    (λ c κs. search needs)
     within-requires
-    part-refused-requires-3
+    (λ c κs. search needs)
     returns-5
     mul-n
     add-n
-    add-i
-    loop-less
+    (λ c. search needs) (λ c. search needs)
     loop-again
-    part-read-requires-3
+    (λ c κs. search needs)
     returns-6)

@@ -21,18 +21,6 @@ value-is c = sym (c .before .before .digits-at .ensures .0) ∙ c .number .given
 end-is : (c : tie.After-number) → c .before .before .digits-at .result .end ≡ c .before .before .before .before .args .from + seek 58 44 (drop (c .before .before .before .before .args .from) (c .before .before .before .before .args .value .now))
 end-is c = c .before .before .digits-at .ensures .1 (c .number .given .0 .0) (c .number .given .1)
 
-digits-at-requires : tie.Need-digits-at-requires
-digits-at-requires c κs = search needs
-
-enum-known-number : tie.Need-enum-known-number
-enum-known-number c = search needs
-
-enum-told : tie.Need-enum-told
-enum-told c = search needs
-
-part-refused-requires : tie.Need-part-refused-requires
-part-refused-requires c κs = search needs
-
 returns : tie.Need-returns
 returns c =
     let g = c .before .before .before .before .before .args in
@@ -40,9 +28,6 @@ returns c =
     let b = partBytes v (g .from) in
     refused (c .part-refused .result) v (g .from) (numberIn (g .low) (g .high) b) (c .part-refused .ensures)
     (sym (not-digits (g .low) (g .high) b (sym (c .before .before .before .digits-at .ensures .0) ∙ c .before .enum-told .given .1)))
-
-part-refused-requires-2 : tie.Need-part-refused-requires-2
-part-refused-requires-2 c κs = search needs
 
 returns-2 : tie.Need-returns-2
 returns-2 c =
@@ -52,17 +37,11 @@ returns-2 c =
     refused (c .part-refused2 .result) v (g .from) (numberIn (g .low) (g .high) b) (c .part-refused2 .ensures)
     (sym (no-digit (g .low) (g .high) b (omega (arith, part-length v (g .from) _ (end-is (c .before .before .before .before)), c .before .if1 .taken))))
 
-add-if2 : tie.Need-add-if2
-add-if2 c = search needs
-
 shared-slice-read-if3 : tie.Need-shared-slice-read-if3
 shared-slice-read-if3 c =
     let g = c .before .before .before .before .before .before .before .before .before .before .args in
     let v = g .value .now in
     omega (arith, end-is (c .before .before .before .before .before .before), seek-le 58 44 (drop (g .from) v), length-drop (g .from) v, c .before .if2 .taken)
-
-part-refused-requires-3 : tie.Need-part-refused-requires-3
-part-refused-requires-3 c κs = search needs
 
 returns-3 : tie.Need-returns-3
 returns-3 c =
@@ -72,9 +51,6 @@ returns-3 c =
     refused (c .part-refused3 .result) v (g .from) (numberIn (g .low) (g .high) b) (c .part-refused3 .ensures)
     (sym (zero-first (g .low) (g .high) b (omega (arith, part-length v (g .from) _ (end-is (c .before .before .before .before .before .before .before .before)), c .before .before .before .if2 .taken))
     (part-first v (g .from) _ (end-is (c .before .before .before .before .before .before .before .before)) (omega (arith, c .before .before .before .if2 .taken)) ∙ c .before .if3 .taken)))
-
-part-refused-requires-4 : tie.Need-part-refused-requires-4
-part-refused-requires-4 c κs = search needs
 
 returns-4 : tie.Need-returns-4
 returns-4 c =
@@ -99,17 +75,14 @@ pub part-at-spec : {M : Type 1} → statement M
 part-at-spec =
     tie.close
     (tie.spec
-    digits-at-requires
-    enum-known-number
-    enum-told
-    part-refused-requires
+    (λ c κs. search needs) (λ c. search needs) (λ c. search needs) (λ c κs. search needs)
     returns
-    part-refused-requires-2
+    (λ c κs. search needs)
     returns-2
-    add-if2
+    (λ c. search needs)
     shared-slice-read-if3
-    part-refused-requires-3
+    (λ c κs. search needs)
     returns-3
-    part-refused-requires-4
+    (λ c κs. search needs)
     returns-4
     returns-5)

@@ -6,20 +6,12 @@ use borrow.Author.Needs.{needs}
 use Rattle.text.proofs.store.Statement.{statement}
 use Rattle.text.proofs.store.Tie as tie
 
-mul-number : tie.Need-mul-number
-mul-number c = search needs
-
-slice-write-number : tie.Need-slice-write-number
-slice-write-number c = search needs
-
-same-length : tie.Need-same-length
-same-length c = search needs
-
-returns : tie.Need-returns
-returns c = search needs
-
 returns-2 : tie.Need-returns-2
 returns-2 c = sym (set-out (c .before .args .number .now) (c .before .args .at) (c .before .args .n) (c .if1 .left))
 
 pub store-spec : {M : Type 1} → statement M
-store-spec = tie.close (tie.spec mul-number slice-write-number same-length returns returns-2)
+store-spec =
+    tie.close
+    (tie.spec
+    (λ c. search needs) (λ c. search needs) (λ c. search needs) (λ c. search needs)
+    returns-2)

@@ -12,9 +12,6 @@ use borrow.Author.Needs.{needs}
 use Rattle.text.proofs.value_into.Statement.{statement}
 use Rattle.text.proofs.value_into.Tie as tie
 
-word-is-requires : tie.Need-word-is-requires
-word-is-requires c κs = search needs
-
 returns : tie.Need-returns
 unfolding valueOf
 returns c =
@@ -43,38 +40,20 @@ returns-4 c =
     held-refused 2 (g .number .now) (valueOf (g .row) (g .value .now)) (λ z. omega arith)
     (simp (ne-eqb _ _ (c .before .before .before .if1 .left), eq-eqb _ _ (c .before .before .if3 .taken), ne-eqb _ _ (c .if4 .left)))
 
-numbers-requires : tie.Need-numbers-requires
-numbers-requires c κs = search needs
-
-same-length : tie.Need-same-length
-same-length c = search needs
-
 returns-5 : tie.Need-returns-5
 returns-5 c =
     let g = c .before .before .before .before .before .before .before .before .before .before .before .args in
     value-refused (g .row) (g .value .now) (c .before .before .before .before .before .before .before .if1 .left) (c .before .before .before .before .before .before .if3 .left) _ _ (c .before .before .before .before .numbers .ensures) (c .if5 .taken)
-
-rising-requires : tie.Need-rising-requires
-rising-requires c κs = search needs
-
-same-length-2 : tie.Need-same-length-2
-same-length-2 c = search needs
 
 returns-6 : tie.Need-returns-6
 returns-6 c =
     let g = c .before .before .before .before .before .before .before .before .before .before .before .before .before .before .before .before .args in
     value-rising (g .row) (g .value .now) (c .before .before .before .before .before .before .before .before .before .before .before .before .if1 .left) (c .before .before .before .before .before .before .before .before .before .before .before .if3 .left) _ _ (c .before .before .before .before .before .before .before .before .before .numbers .ensures) (c .before .before .before .before .before .if5 .left) (c .before .before .before .if6 .taken) (sym (c .before .rising .ensures) ∙ c .if7 .taken)
 
-same-length-3 : tie.Need-same-length-3
-same-length-3 c = search needs
-
 returns-7 : tie.Need-returns-7
 returns-7 c =
     let g = c .before .before .before .before .before .before .before .before .before .before .before .before .before .before .before .before .args in
     value-falling (g .row) (g .value .now) (c .before .before .before .before .before .before .before .before .before .before .before .before .if1 .left) (c .before .before .before .before .before .before .before .before .before .before .before .if3 .left) _ _ (c .before .before .before .before .before .before .before .before .before .numbers .ensures) (c .before .before .before .before .before .if5 .left) (c .before .before .before .if6 .taken) (sym (c .before .rising .ensures) ∙ c .if7 .left)
-
-same-length-4 : tie.Need-same-length-4
-same-length-4 c = search needs
 
 returns-8 : tie.Need-returns-8
 returns-8 c =
@@ -85,18 +64,16 @@ pub value-into-spec : {M : Type 1} → statement M
 value-into-spec =
     tie.close
     (tie.spec
-    word-is-requires
+    (λ c κs. search needs)
     returns
     returns-2
     returns-3
     returns-4
-    numbers-requires
-    same-length
+    (λ c κs. search needs) (λ c. search needs)
     returns-5
-    rising-requires
-    same-length-2
+    (λ c κs. search needs) (λ c. search needs)
     returns-6
-    same-length-3
+    (λ c. search needs)
     returns-7
-    same-length-4
+    (λ c. search needs)
     returns-8)

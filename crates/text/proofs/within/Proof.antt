@@ -17,15 +17,6 @@ divided n d high h = by (leb n ((high - d) / 10)) refl
     by true e = sym (le-leb (n * 10 + d) high (omega (arith, leb-true n ((high - d) / 10) e)))
     by false e = sym (lt-leb (n * 10 + d) high (omega (arith, leb-false n ((high - d) / 10) e)))
 
-mul-result : tie.Need-mul-result
-mul-result c = search needs
-
-add-result : tie.Need-add-result
-add-result c = search needs
-
-returns : tie.Need-returns
-returns c = search needs
-
 returns-2 : tie.Need-returns-2
 returns-2 c = let g = c .before .before .args in sym (lt-leb (g .n * 10 + g .d) (g .high) (omega arith))
 
@@ -33,4 +24,4 @@ returns-3 : tie.Need-returns-3
 returns-3 c = let g = c .before .before .args in divided (g .n) (g .d) (g .high) (omega arith)
 
 pub within-spec : {M : Type 1} → statement M
-within-spec = tie.close (tie.spec mul-result add-result returns returns-2 returns-3)
+within-spec = tie.close (tie.spec (λ c. search needs) (λ c. search needs) (λ c. search needs) returns-2 returns-3)

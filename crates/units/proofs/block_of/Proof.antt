@@ -11,9 +11,6 @@ use Rattle.units.proofs.Ones.{one-shifted, ones-below}
 use Rattle.units.proofs.block_of.Statement.{statement}
 use Rattle.units.proofs.block_of.Tie as tie
 
-shl-bound : tie.Need-shl-bound
-shl-bound c = search needs
-
 rem-result : tie.Need-rem-result
 rem-result c = rw (one-shifted (c .args .k) (c .pre)) (pow-pos (c .args .k))
 
@@ -30,4 +27,4 @@ returns c =
     ap (λ (b : ℕ). ones (a .units % b)) (one-shifted (a .k) (c .pre)) ∙ ones-below (a .units) (a .k)
 
 pub block-of-spec : {M : Type 1} → statement M
-block-of-spec = tie.close (tie.spec shl-bound rem-result cast-result returns)
+block-of-spec = tie.close (tie.spec (λ c. search needs) rem-result cast-result returns)

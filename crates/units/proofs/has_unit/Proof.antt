@@ -27,12 +27,6 @@ returns-2 c =
     let l : leb 1 n ≡ true = le-leb 1 n (omega arith) in
     rw (l, h)
 
-sub-place : tie.Need-sub-place
-sub-place c = search needs
-
-shr-result : tie.Need-shr-result
-shr-result c = search needs
-
 returns-3 : tie.Need-returns-3
 unfolding isMember
 returns-3 c =
@@ -42,4 +36,4 @@ returns-3 c =
     rw (l, h) (ap (λ (b : ℕ). eqb b 1) (shifted-bit (a .units) (a .n - 1)))
 
 pub has-unit-spec : {M : Type 1} → statement M
-has-unit-spec = tie.close (tie.spec returns returns-2 sub-place shr-result returns-3)
+has-unit-spec = tie.close (tie.spec returns returns-2 (λ c. search needs) (λ c. search needs) returns-3)

@@ -10,9 +10,6 @@ use Rattle.units.proofs.Laws.{place-lt}
 use Rattle.units.proofs.lowest_at.Statement.{statement}
 use Rattle.units.proofs.lowest_at.Tie as tie
 
-member-at-requires : tie.Need-member-at-requires
-member-at-requires c κs = search needs
-
 block-of-requires : tie.Need-block-of-requires
 block-of-requires c κs =
     let a = c .before .before .args in
@@ -31,4 +28,4 @@ returns-2 c =
     rw m
 
 pub lowest-at-spec : {M : Type 1} → statement M
-lowest-at-spec = tie.close (tie.spec member-at-requires block-of-requires returns returns-2)
+lowest-at-spec = tie.close (tie.spec (λ c κs. search needs) block-of-requires returns returns-2)

@@ -10,15 +10,9 @@ use Rattle.units.proofs.member_at.Tie as tie
 returns : tie.Need-returns
 returns c = sym (place-past (c .before .args .units) (c .before .args .k) (c .if1 .taken))
 
-add-has-unit : tie.Need-add-has-unit
-add-has-unit c = search needs
-
-has-unit-requires : tie.Need-has-unit-requires
-has-unit-requires c κs = search needs
-
 returns-2 : tie.Need-returns-2
 unfolding memberAt
 returns-2 c = search needs
 
 pub member-at-spec : {M : Type 1} → statement M
-member-at-spec = tie.close (tie.spec returns add-has-unit has-unit-requires returns-2)
+member-at-spec = tie.close (tie.spec returns (λ c. search needs) (λ c κs. search needs) returns-2)

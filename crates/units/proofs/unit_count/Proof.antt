@@ -9,8 +9,5 @@ use Rattle.units.proofs.unit_count.Tie as tie
 cast-result : tie.Need-cast-result
 cast-result c = omega (arith, ones-le 64 (c .args .units) (c .fits .units .fits))
 
-returns : tie.Need-returns
-returns c = search needs
-
 pub unit-count-spec : {M : Type 1} → statement M
-unit-count-spec = tie.close (tie.spec cast-result returns)
+unit-count-spec = tie.close (tie.spec cast-result (λ c. search needs))
