@@ -235,9 +235,7 @@ fn go_on_in_range(
     requires { ⌜ Due sheet (now calls) (now text) (now answers) places n stand × (stand .refusal ≡ 0) ⌝ }
     ensures { λ r. ⌜ Goes sheet (now (calls .entry)) (now (text .entry)) (now (answers .entry)) (now (answers .exit)) places n stand r ⌝ }
 {
-    let next = stand.next;
     let count = stand.count;
-    let units = sheet.units;
     let terms = settlement::terms_of(sheet);
     let offers = numbers::offer_numbers(sheet);
     let mut commitment = stand.commitment;
@@ -258,17 +256,17 @@ fn go_on_in_range(
         text,
         &offers,
         terms,
-        next,
+        stand.next,
         n,
         count,
         places,
     );
     Step {
-        row: postings::rows_of(units, &hours, &rows, b.filled),
+        row: postings::rows_of(sheet.units, &hours, &rows, b.filled),
         at: count as usize,
         n: (b.count - count) as usize,
         stand: Stand {
-            next: next + b.turns,
+            next: stand.next + b.turns,
             count: b.count,
             refusal: 0,
             commitment,

@@ -8,9 +8,12 @@ use lib.Dec.{eqb}
 use Rattle.ledger.specs.declared.Asked.{Asked}
 use Rattle.ledger.specs.Ledger.{Call as LedgerCall, take, release, move, settle, restate, void, startOf}
 use Rattle.ledger.specs.Requests.{partOf, callFor}
+use Rattle.decisions.specs.declared.CommitmentKind.{CommitmentKind}
+use Rattle.decisions.specs.declared.CommitmentKind.the-variants.{Take, Release, Move}
+use Rattle.decisions.specs.declared.CommitmentCall.{CommitmentCall}
 use Rattle.decisions.specs.declared.Call.{Call}
-use Rattle.decisions.specs.declared.Call.the-variants.{Take, Release, Move, Settle, Restate, Void}
-use Rattle.decisions.specs.Calls.{decoded, callOf, callStart}
+use Rattle.decisions.specs.declared.Call.the-variants.{Commitment, Record, Void}
+use Rattle.decisions.specs.Calls.{commitmentCall, recordCall, decoded, commitmentOf, recordOf, callOf, callStart}
 
 module _ (text : List ℕ) where
   pub decoded-is : (a : Asked) → callOf text (decoded a) ≡ callFor text a
@@ -19,11 +22,10 @@ module _ (text : List ℕ) where
     where
       by : (k1 k2 k3 k4 k5 k6 : Bool)
           → callOf text
-          (cond k1 (Take (a .hour) (a .unit) (a .kwh))
-          (cond k2 (Release (a .hour) (a .unit) (a .kwh))
-          (cond k3 (Move (a .hour) (a .unit) (a .to) (a .kwh))
-          (cond k4 (Settle (a .begin) (a .end) (a .start))
-          (cond k5 (Restate (a .begin) (a .end) (a .start)) (cond k6 (Void (a .hour)) (Void 0)))))))
+          (cond k1 (commitmentCall Take a)
+          (cond k2 (commitmentCall Release a)
+          (cond k3 (commitmentCall Move a)
+          (cond k4 (recordCall false a) (cond k5 (recordCall true a) (cond k6 (Void (a .hour)) (Void 0)))))))
           ≡ cond k1 (take (a .hour) (a .unit) (a .kwh))
           (cond k2 (release (a .hour) (a .unit) (a .kwh))
           (cond k3 (move (a .hour) (a .unit) (a .to) (a .kwh))
@@ -37,10 +39,16 @@ module _ (text : List ℕ) where
       by false false false false false true = refl
       by false false false false false false = refl
 
+  commitment-start : (k : CommitmentKind) (c : CommitmentCall) → 0 ≡ startOf (commitmentOf k c)
+  commitment-start Take c = refl
+  commitment-start Release c = refl
+  commitment-start Move c = refl
+
+  record-start : (again : Bool) (part : List ℕ) (start : ℕ) → start ≡ startOf (recordOf again part start)
+  record-start true part start = refl
+  record-start false part start = refl
+
   pub start-is : (c : Call) → callStart c ≡ startOf (callOf text c)
-  start-is (Take hour unit kwh) = refl
-  start-is (Release hour unit kwh) = refl
-  start-is (Move hour from to kwh) = refl
-  start-is (Settle begin end start) = refl
-  start-is (Restate begin end start) = refl
+  start-is (Commitment c) = commitment-start (c .kind) c
+  start-is (Record c) = record-start (c .again) (partOf text (c .begin) (c .end)) (c .start)
   start-is (Void hour) = refl

@@ -7,6 +7,9 @@ use lib.Dec.{ltb, eqb}
 use Rattle.state.specs.Sizes.{entryOf}
 use Rattle.ledger.specs.declared.Refusal.the-variants.{HourRange, UnitUnknown, SameUnit, HourSettled, NoAmount, HeldLess, OverOffer}
 use Rattle.ledger.specs.Calls.{Row, row, badHour, unknownUnits}
+use Rattle.decisions.specs.declared.CommitmentKind.{CommitmentKind}
+use Rattle.decisions.specs.declared.CommitmentKind.the-variants.{Take, Release, Move}
+use Rattle.decisions.specs.declared.CommitmentCall.{CommitmentCall}
 use Rattle.decisions.specs.declared.CommitmentChange.{CommitmentChange}
 
 -- where an hour, and an hour's unit, stand in the book; 0 for one that is none
@@ -25,6 +28,14 @@ releaseChange hour unit kwh = record { hour = hour; from = unit; to = unit; out 
 
 abbrev pub moveChange : (hour from to kwh : ℕ) → CommitmentChange
 moveChange hour from to kwh = record { hour = hour; from = from; to = to; out = record { 0 = kwh }; into = record { 0 = kwh }; moves = true }
+
+abbrev pub changeFor : CommitmentKind → CommitmentCall → CommitmentChange
+changeFor Take c = takeChange (c .hour) (c .unit) (c .kwh)
+changeFor Release c = releaseChange (c .hour) (c .unit) (c .kwh)
+changeFor Move c = moveChange (c .hour) (c .unit) (c .to) (c .kwh)
+
+unfoldable pub changeOf : CommitmentCall → CommitmentChange
+changeOf c = changeFor (c .kind) c
 
 -- 10 11 24 20 21 23 22, by whether the hour is settled, the commitments of the unit that gives and of the one that gets, and the latter's last
 -- offer quantity. A take gives nothing, so that 23 cannot hold of it; a release gets nothing, so that 22 cannot hold where 12 does not

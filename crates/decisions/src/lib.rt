@@ -10,8 +10,8 @@ ghost use Rattle.ledger.specs.Calls.{verdict, badHour, unknownUnits, shortOf, b
 ghost use Rattle.ledger.specs.Numbers.{refusalNumber, refusalLine, numberOf, lineOf, postedOf};
 ghost use Rattle.ledger.specs.Requests.{partOf, askedAt};
 ghost use Rattle.ledger.specs.Total.{noTotal, totalDecided};
-ghost use Rattle.decisions.specs.Calls.{decoded, callStart};
-ghost use Rattle.decisions.specs.Changes.{hourIndex, entryIndex, takeChange, releaseChange, moveChange, changeTests};
+ghost use Rattle.decisions.specs.Calls.{commitmentCall, recordCall, decoded, callStart};
+ghost use Rattle.decisions.specs.Changes.{hourIndex, entryIndex, takeChange, releaseChange, moveChange, changeOf, changeTests};
 ghost use Rattle.decisions.specs.Hours.{hourRefused, hourChanged, voidDecided, standingRow, recordDecided};
 use energy::HubKwh;
 use ledger::Answer;
@@ -28,18 +28,34 @@ use settlement::HourSheet;
 use sheet::Sheet;
 use state::Book;
 
-// A call. A settle and a restate have the part of the lent text that they are given, from its first number to before its second, and where their
-// record starts in that part.
+// The calls that change commitments.
+pub enum CommitmentKind {
+    Take,
+    Release,
+    Move,
+}
+
+// A take, release or move of an hour. A move goes from `unit` to `to`; the others do not look at `to`.
+pub struct CommitmentCall {
+    pub kind: CommitmentKind,
+    pub hour: u64,
+    pub unit: u64,
+    pub to: u64,
+    pub kwh: u64,
+}
+
+// A settle, or a restate (`again`): the part of the lent text that it is given, from `begin` to before `end`, and where its record starts in that part.
+pub struct RecordCall {
+    pub again: bool,
+    pub begin: u64,
+    pub end: u64,
+    pub start: u64,
+}
+
+// A call. A void has its hour.
 pub enum Call {
-    // hour, unit, kWh
-    Take(u64, u64, u64),
-    Release(u64, u64, u64),
-    // hour, from, to, kWh
-    Move(u64, u64, u64, u64),
-    // begin, end, start
-    Settle(u64, u64, u64),
-    Restate(u64, u64, u64),
-    // hour
+    Commitment(CommitmentCall),
+    Record(RecordCall),
     Void(u64),
 }
 
@@ -94,25 +110,48 @@ pub fn asked_at(calls: &[u64], i: usize) -> Asked
     }
 }
 
+fn commitment_call(kind: CommitmentKind, asked: Asked) -> Call
+    ensures { λ r. ⌜ r ≡ commitmentCall kind asked ⌝ }
+{
+    Call::Commitment(CommitmentCall {
+        kind,
+        hour: asked.hour,
+        unit: asked.unit,
+        to: asked.to,
+        kwh: asked.kwh,
+    })
+}
+
+fn record_call(again: bool, asked: Asked) -> Call
+    ensures { λ r. ⌜ r ≡ recordCall again asked ⌝ }
+{
+    Call::Record(RecordCall {
+        again,
+        begin: asked.begin,
+        end: asked.end,
+        start: asked.start,
+    })
+}
+
 // The one place where the kinds have numbers: 1 take, 2 release, 3 move, 4 settle, 5 restate, 6 void. Another number is a void of hour 0.
 pub fn decode(asked: Asked) -> Call
     ensures { λ r. ⌜ r ≡ decoded asked ⌝ }
 {
     let kind = asked.kind;
     if kind == 1 {
-        return Call::Take(asked.hour, asked.unit, asked.kwh);
+        return commitment_call(CommitmentKind::Take, asked);
     }
     if kind == 2 {
-        return Call::Release(asked.hour, asked.unit, asked.kwh);
+        return commitment_call(CommitmentKind::Release, asked);
     }
     if kind == 3 {
-        return Call::Move(asked.hour, asked.unit, asked.to, asked.kwh);
+        return commitment_call(CommitmentKind::Move, asked);
     }
     if kind == 4 {
-        return Call::Settle(asked.begin, asked.end, asked.start);
+        return record_call(false, asked);
     }
     if kind == 5 {
-        return Call::Restate(asked.begin, asked.end, asked.start);
+        return record_call(true, asked);
     }
     if kind == 6 {
         return Call::Void(asked.hour);
@@ -125,16 +164,13 @@ pub fn start_of(call: Call) -> u64
     ensures { λ r. ⌜ r ≡ callStart call ⌝ }
 {
     match call {
-        Call::Settle(_, _, start) => start,
-        Call::Restate(_, _, start) => start,
-        Call::Take(_, _, _) => 0,
-        Call::Release(_, _, _) => 0,
-        Call::Move(_, _, _, _) => 0,
+        Call::Commitment(_) => 0,
+        Call::Record(c) => c.start,
         Call::Void(_) => 0,
     }
 }
 
-pub fn take_change(hour: u64, unit: u64, kwh: u64) -> CommitmentChange
+fn take_change(hour: u64, unit: u64, kwh: u64) -> CommitmentChange
     ensures { λ r. ⌜ r ≡ takeChange hour unit kwh ⌝ }
 {
     CommitmentChange {
@@ -147,7 +183,7 @@ pub fn take_change(hour: u64, unit: u64, kwh: u64) -> CommitmentChange
     }
 }
 
-pub fn release_change(hour: u64, unit: u64, kwh: u64) -> CommitmentChange
+fn release_change(hour: u64, unit: u64, kwh: u64) -> CommitmentChange
     ensures { λ r. ⌜ r ≡ releaseChange hour unit kwh ⌝ }
 {
     CommitmentChange {
@@ -160,7 +196,7 @@ pub fn release_change(hour: u64, unit: u64, kwh: u64) -> CommitmentChange
     }
 }
 
-pub fn move_change(hour: u64, from: u64, to: u64, kwh: u64) -> CommitmentChange
+fn move_change(hour: u64, from: u64, to: u64, kwh: u64) -> CommitmentChange
     ensures { λ r. ⌜ r ≡ moveChange hour from to kwh ⌝ }
 {
     CommitmentChange {
@@ -170,6 +206,18 @@ pub fn move_change(hour: u64, from: u64, to: u64, kwh: u64) -> CommitmentChange
         out: HubKwh(kwh),
         into: HubKwh(kwh),
         moves: true,
+    }
+}
+
+// What a take, release or move gives and gets.
+pub fn change_of(call: CommitmentCall) -> CommitmentChange
+    ensures { λ r. ⌜ r ≡ changeOf call ⌝ }
+{
+    let kind = call.kind;
+    match kind {
+        CommitmentKind::Take => take_change(call.hour, call.unit, call.kwh),
+        CommitmentKind::Release => release_change(call.hour, call.unit, call.kwh),
+        CommitmentKind::Move => move_change(call.hour, call.unit, call.to, call.kwh),
     }
 }
 

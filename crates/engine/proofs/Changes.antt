@@ -34,8 +34,12 @@ use Rattle.ledger.specs.Calls.{Row, row, verdict, badHour, isSettled, heldKwh, 
 use Rattle.ledger.proofs.Passed.{from-known, to-known}
 use Rattle.numbers.specs.Offers.{offerIn}
 use Rattle.numbers.proofs.Packed.{commitment-in, set-commitment}
+use Rattle.decisions.specs.declared.CommitmentKind.{CommitmentKind}
+use Rattle.decisions.specs.declared.CommitmentKind.the-variants.{Take, Release, Move}
+use Rattle.decisions.specs.declared.CommitmentCall.{CommitmentCall}
 use Rattle.decisions.specs.declared.CommitmentChange.{CommitmentChange}
-use Rattle.decisions.specs.Changes.{hourIndex, entryIndex, takeChange, releaseChange, moveChange}
+use Rattle.decisions.specs.Calls.{commitmentOf}
+use Rattle.decisions.specs.Changes.{hourIndex, entryIndex, takeChange, releaseChange, moveChange, changeFor, changeOf}
 use Rattle.decisions.proofs.Changes.{take-tests, release-tests, move-tests, in-hour, entry-in, entry-lt, Passed, changed-passed}
 use Rattle.engine.specs.Table.{Table, table, bookIn, Long, Under, Matches, Carried}
 use Rattle.engine.specs.Changed.{Changed, changedBy, shifted, verdictIn, changedIn}
@@ -219,7 +223,7 @@ module _ (terms : DayTerms) (offers : List ℕ) (t : Table) (entry count journal
             ∙ rw (stored-at hour h from f (t .commitment) (held hour from - kwh) (long .commitment), held-at hour h from f, held-at hour h to g))
 
   -- the three calls
-  pub take-carried : (hour unit kwh : ℕ) → Is (takeChange hour unit kwh) → Carries (take hour unit kwh)
+  take-carried : (hour unit kwh : ℕ) → Is (takeChange hour unit kwh) → Carries (take hour unit kwh)
   unfolding requestRows acceptedIn
   take-carried hour unit kwh e =
       record {
@@ -227,7 +231,7 @@ module _ (terms : DayTerms) (offers : List ℕ) (t : Table) (entry count journal
             (λ p. one-after s u f (takeChange hour unit kwh) _ p refl (omega arith));
       }
 
-  pub release-carried : (hour unit kwh : ℕ) → Is (releaseChange hour unit kwh) → Carries (release hour unit kwh)
+  release-carried : (hour unit kwh : ℕ) → Is (releaseChange hour unit kwh) → Carries (release hour unit kwh)
   unfolding requestRows acceptedIn
   release-carried hour unit kwh e =
       record {
@@ -235,9 +239,19 @@ module _ (terms : DayTerms) (offers : List ℕ) (t : Table) (entry count journal
             (λ p. one-after s u f (releaseChange hour unit kwh) _ p refl (omega arith));
       }
 
-  pub move-carried : (hour from to kwh : ℕ) → Is (moveChange hour from to kwh) → Carries (move hour from to kwh)
+  move-carried : (hour from to kwh : ℕ) → Is (moveChange hour from to kwh) → Carries (move hour from to kwh)
   unfolding requestRows acceptedIn
   move-carried hour from to kwh e =
       record {
         matches = λ s u f. change-leaves s u f (moveChange hour from to kwh) e _ _ (move-verdict s u f hour from to kwh) (move-after s u f hour from to kwh);
       }
+
+  -- the call by its kind
+  commitment-by : (k : CommitmentKind) (c : CommitmentCall) → Is (changeFor k c) → Carries (commitmentOf k c)
+  commitment-by Take c = take-carried (c .hour) (c .unit) (c .kwh)
+  commitment-by Release c = release-carried (c .hour) (c .unit) (c .kwh)
+  commitment-by Move c = move-carried (c .hour) (c .unit) (c .to) (c .kwh)
+
+  pub commitment-carried : (c : CommitmentCall) (x : CommitmentChange) → x ≡ changeOf c → Is x → Carries (commitmentOf (c .kind) c)
+  unfolding changeOf
+  commitment-carried c x e h = commitment-by (c .kind) c (rw e at h)

@@ -42,12 +42,13 @@ use Rattle.numbers.specs.Numbers.{hourItems, differences}
 use Rattle.numbers.proofs.Packed.{amount-in, difference-at, differences-length}
 use Rattle.numbers.proofs.Pasted.{pasted-before, pasted-in}
 use Rattle.decisions.specs.declared.HourChange.{HourChange}
+use Rattle.decisions.specs.Calls.{recordOf}
 use Rattle.decisions.specs.Changes.{hourIndex}
 use Rattle.decisions.specs.Hours.{hourRefused, hourChanged, changeBy, voidDecided, standingRow, recordDecided}
 use Rattle.decisions.proofs.Changes.{in-hour, hour-lt}
 use Rattle.engine.specs.declared.Done.{Done}
 use Rattle.engine.specs.Table.{Table, bookIn, Under, Ready, Matches, Carried}
-use Rattle.engine.specs.Changed.{recordCall, Stored}
+use Rattle.engine.specs.Changed.{Stored}
 use Rattle.engine.proofs.HourReady.{HourAt, at-hour, at-held, at-reading, at-day, at-place}
 
 -- a change carried out on a book, and one that is not accepted
@@ -129,7 +130,7 @@ module _ (s : Sheet) (b : Book) (count room : ℕ) where
       → let g = given s text start in
       ((place : ℕ) → g .answer ≡ placeRead place → (h ≡ g .read .hour - 1) × (h + 1 ≡ g .read .hour))
       → decisionOf (s .units) b count h (recordDecided (hourSheet s (h + 1)) (hourCommitments b h) again (eqb (markAt b h) settledMark) start g count room)
-      ≡ requestDecided s b (requestOf s (recordCall again text start)) count room
+      ≡ requestDecided s b (requestOf s (recordOf again text start)) count room
   unfolding requestRows acceptedIn
   record-on true text start h at = let g = given s text start in text-on true (g .answer) (g .read) start h at
   record-on false text start h at = let g = given s text start in text-on false (g .answer) (g .read) start h at
@@ -241,7 +242,7 @@ module _ {terms : DayTerms} {offers : List ℕ} {t : Table} {rows : List ℤ} {e
       → HourAt terms offers t text start reading h held day → (again : Bool)
       → d ≡ recordDecided day held again (eqb (getD (t .mark) h 0) settledMark) start reading count room
       → Stored (terms .units) h entry d t rows t′ rows′ → r ≡ record { answer = d .answer; place = d .place; hour = d .hour }
-      → Carried terms offers (recordCall again text start) count room t entry rows t′ rows′ r
+      → Carried terms offers (recordOf again text start) count room t entry rows t′ rows′ r
   record-carried {text} {start} {reading} {h} {held} {day} at again ed stored is =
       record {
         matches = λ s under fits.

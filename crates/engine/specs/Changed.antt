@@ -17,7 +17,6 @@ use Rattle.ledger.specs.declared.Answer.{Answer}
 use Rattle.ledger.specs.declared.Answer.the-variants.{Accepted, Refused}
 use Rattle.ledger.specs.declared.Verdict.{Verdict}
 use Rattle.ledger.specs.declared.Verdict.the-variants.{Accepted as passes, Refused as fails}
-use Rattle.ledger.specs.Ledger.{Call, settle, restate}
 use Rattle.ledger.specs.Calls.{verdict}
 use Rattle.numbers.specs.Offers.{offerIn}
 use Rattle.numbers.specs.Numbers.{hourItems, differences, energiesOf, amountsOf}
@@ -63,10 +62,6 @@ pub record StoreReady (mark energy : List ℕ) (amounts rows : List ℤ) (entry 
   pub old : (n : ℕ) → natAbs (getD amounts n (pos 0)) ≤ mostAmount
   pub new : d .accepted ≡ true → (k i : ℕ) → k < places → i < items → natAbs (itemOf (getD (d .result .amounts) k pastAmounts) i) ≤ mostAmount
   pub five : d .accepted ≡ true → (k : ℕ) → k < places → length (getD (d .result .amounts) k pastAmounts .item) ≡ items
-
--- a settle, or a restate (`again`)
-abbrev pub recordCall : Bool → List ℕ → (start : ℕ) → Call
-recordCall again text start = cond again (restate text start) (settle text start)
 
 -- an hour stored, and the differences of its amounts in an entry of the rows; where it is not accepted, all stays
 pub record Stored (units h entry : ℕ) (d : HourChange) (t : Table) (rows : List ℤ) (t′ : Table) (rows′ : List ℤ) : Type 0 where

@@ -13,9 +13,9 @@ ghost use Rattle.state.specs.Book.{pastAmounts, itemOf};
 ghost use Rattle.state.specs.Ranges.{mostAmount, limitOf};
 ghost use Rattle.numbers.specs.Offers.{offerSize, offerIn};
 ghost use Rattle.numbers.specs.Numbers.{hourItems};
-ghost use Rattle.decisions.specs.Calls.{callOf};
+ghost use Rattle.decisions.specs.Calls.{recordOf, callOf};
 ghost use Rattle.engine.specs.Table.{table, Long, Ready, Carried};
-ghost use Rattle.engine.specs.Changed.{changedIn, Stored, StoreReady, recordCall};
+ghost use Rattle.engine.specs.Changed.{changedIn, Stored, StoreReady};
 use decisions::Call;
 use decisions::CommitmentChange;
 use decisions::HourChange;
@@ -32,7 +32,7 @@ pub struct Done {
 }
 
 // A take, release or move: it is tested, and where it is accepted what is given goes off one commitment and what comes is added to the other.
-fn change(
+fn change_commitments(
     commitment: &mut [u64],
     mark: &[u64],
     offers: &[u64],
@@ -113,7 +113,7 @@ fn record_hour(
     places: usize,
 ) -> Done
     requires { ⌜ Ready terms (now offers) (table (now commitment) (now mark) (now energy) (now amounts)) (now rows) entry count places ⌝ }
-    ensures { λ r. ⌜ Carried terms (now (offers .entry)) (recordCall again (now (text .entry)) start) count places (table (now (commitment .entry)) (now (mark .entry)) (now (energy .entry)) (now (amounts .entry))) entry (now (rows .entry)) (table (now (commitment .entry)) (now (mark .exit)) (now (energy .exit)) (now (amounts .exit))) (now (rows .exit)) r ⌝ }
+    ensures { λ r. ⌜ Carried terms (now (offers .entry)) (recordOf again (now (text .entry)) start) count places (table (now (commitment .entry)) (now (mark .entry)) (now (energy .entry)) (now (amounts .entry))) entry (now (rows .entry)) (table (now (commitment .entry)) (now (mark .exit)) (now (energy .exit)) (now (amounts .exit))) (now (rows .exit)) r ⌝ }
 {
     let units = terms.units;
     let monthly = terms.monthly;
@@ -148,20 +148,12 @@ pub fn carry_out(
 {
     let units = terms.units;
     match call {
-        Call::Take(hour, unit, kwh) => {
-            let c = decisions::take_change(hour, unit, kwh);
-            changed(change(commitment, mark, offers, units, c))
+        Call::Commitment(c) => {
+            let change = decisions::change_of(c);
+            changed(change_commitments(commitment, mark, offers, units, change))
         }
-        Call::Release(hour, unit, kwh) => {
-            let c = decisions::release_change(hour, unit, kwh);
-            changed(change(commitment, mark, offers, units, c))
-        }
-        Call::Move(hour, from, to, kwh) => {
-            let c = decisions::move_change(hour, from, to, kwh);
-            changed(change(commitment, mark, offers, units, c))
-        }
-        Call::Settle(begin, end, start) => {
-            let part = decisions::part_of(text, begin, end);
+        Call::Record(c) => {
+            let part = decisions::part_of(text, c.begin, c.end);
             record_hour(
                 commitment,
                 mark,
@@ -172,26 +164,8 @@ pub fn carry_out(
                 offers,
                 terms,
                 part,
-                start,
-                false,
-                count,
-                places,
-            )
-        }
-        Call::Restate(begin, end, start) => {
-            let part = decisions::part_of(text, begin, end);
-            record_hour(
-                commitment,
-                mark,
-                energy,
-                amounts,
-                rows,
-                entry,
-                offers,
-                terms,
-                part,
-                start,
-                true,
+                c.start,
+                c.again,
                 count,
                 places,
             )

@@ -8,6 +8,9 @@ ghost use Rattle.ledger.specs.Requests.{callFor};
 ghost use Rattle.decisions.specs.Calls.{callOf};
 ghost use Rattle.single.specs.Single.{noRows, refusedCall, nineFirst, twelveOr9, entriesOf, firstAt, checkedBy, callOutcome, Decides};
 use decisions::Call;
+use decisions::CommitmentCall;
+use decisions::CommitmentKind;
+use decisions::RecordCall;
 use ledger::Answer;
 use ledger::Asked;
 use ledger::Outcome;
@@ -203,7 +206,14 @@ pub fn take(
 ) -> CallDecision
     ensures { λ r. ⌜ Decides sheet book count places (takeCall hour unit kwh) r ⌝ }
 {
-    decide(sheet, book, b"", Call::Take(hour, unit, kwh), count, places)
+    let call = Call::Commitment(CommitmentCall {
+        kind: CommitmentKind::Take,
+        hour,
+        unit,
+        to: unit,
+        kwh,
+    });
+    decide(sheet, book, b"", call, count, places)
 }
 
 pub fn release(
@@ -217,14 +227,14 @@ pub fn release(
 ) -> CallDecision
     ensures { λ r. ⌜ Decides sheet book count places (releaseCall hour unit kwh) r ⌝ }
 {
-    decide(
-        sheet,
-        book,
-        b"",
-        Call::Release(hour, unit, kwh),
-        count,
-        places,
-    )
+    let call = Call::Commitment(CommitmentCall {
+        kind: CommitmentKind::Release,
+        hour,
+        unit,
+        to: unit,
+        kwh,
+    });
+    decide(sheet, book, b"", call, count, places)
 }
 
 pub fn move_kwh(
@@ -239,14 +249,14 @@ pub fn move_kwh(
 ) -> CallDecision
     ensures { λ r. ⌜ Decides sheet book count places (moveCall hour from to kwh) r ⌝ }
 {
-    decide(
-        sheet,
-        book,
-        b"",
-        Call::Move(hour, from, to, kwh),
-        count,
-        places,
-    )
+    let call = Call::Commitment(CommitmentCall {
+        kind: CommitmentKind::Move,
+        hour,
+        unit: from,
+        to,
+        kwh,
+    });
+    decide(sheet, book, b"", call, count, places)
 }
 
 pub fn void_hour(sheet: Sheet, book: Book, count: u64, places: usize, hour: u64) -> CallDecision
@@ -265,14 +275,13 @@ pub fn settle(
 ) -> CallDecision
     ensures { λ r. ⌜ Decides sheet book count places (settleCall (now (text .entry)) start) r ⌝ }
 {
-    decide(
-        sheet,
-        book,
-        text,
-        Call::Settle(0, text.len() as u64, start),
-        count,
-        places,
-    )
+    let call = Call::Record(RecordCall {
+        again: false,
+        begin: 0,
+        end: text.len() as u64,
+        start,
+    });
+    decide(sheet, book, text, call, count, places)
 }
 
 pub fn restate(
@@ -285,14 +294,13 @@ pub fn restate(
 ) -> CallDecision
     ensures { λ r. ⌜ Decides sheet book count places (restateCall (now (text .entry)) start) r ⌝ }
 {
-    decide(
-        sheet,
-        book,
-        text,
-        Call::Restate(0, text.len() as u64, start),
-        count,
-        places,
-    )
+    let call = Call::Record(RecordCall {
+        again: true,
+        begin: 0,
+        end: text.len() as u64,
+        start,
+    });
+    decide(sheet, book, text, call, count, places)
 }
 
 pub fn call(

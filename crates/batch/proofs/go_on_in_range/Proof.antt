@@ -1,11 +1,10 @@
 -- Some calls are carried out on the book's numbers, and their entries are their postings (proofs/Going.antt).
 -- Assumes nothing.
-use mathlib.Core.Path.{_≡_, refl, sym, ap, _∙_}
+use mathlib.Core.Path.{refl, sym}
 use native.Mathlib.Omega.{arith}
-use lib.ListN.{length, length-set, length-map}
+use lib.ListN.{length-map}
 use Rattle.engine.specs.Table.{Long}
-use Rattle.batch.specs.declared.Step.{Step}
-use Rattle.batch.specs.Stands.{tableOf, Goes}
+use Rattle.batch.specs.Stands.{tableOf}
 use Rattle.batch.proofs.Going.{units-most, batch-ready, count-grows, batch-goes}
 use borrow.Author.Needs.{needs}
 use Rattle.batch.proofs.go_on_in_range.Statement.{statement}
@@ -28,19 +27,28 @@ slice-aggregate-run-batch-4 : tie.Need-slice-aggregate-run-batch-4
 slice-aggregate-run-batch-4 c = sym (long (c .before .before .before .before .before .before .before .before .before .before .before .before .before) .amounts)
 
 run-batch-requires : tie.Need-run-batch-requires
-run-batch-requires c κs = batch-ready _ _ _ _ _ _ (c .before .before .before .before .before .before .before .before .before .before .before .before .before .before .before .before .before .args .stand) (c .before .before .before .before .before .before .before .before .before .before .before .before .before .before .before .before .before .pre .0) (c .before .before .before .before .before .before .before .before .before .before .before .before .before .before .before .before .before .pre .1) _ _ (c .before .before .before .before .before .before .before .before .before .before .before .before .before .terms-of .ensures) (c .before .before .before .before .before .before .before .before .before .before .before .before .offer-numbers .ensures) _ _ (long (c .before .before .before .before .before .before .before .before .before .before .before .before .before .before .before .before .before)) refl refl
+run-batch-requires c κs =
+    let start = c .before .before .before .before .before .before .before .before .before .before .before .before .before .before .before .before .before in
+    batch-ready _ _ _ _ _ _ (start .args .stand) (start .pre .0) (start .pre .1) _ _ (c .before .before .before .before .before .before .before .before .before .before .before .before .before .terms-of .ensures) (c .before .before .before .before .before .before .before .before .before .before .before .before .offer-numbers .ensures) _ _ (long start) refl refl
 
 rows-of-requires : tie.Need-rows-of-requires
-rows-of-requires c κs = (units-most _ _ _ _ _ _ (c .before .before .before .before .before .before .before .before .before .before .before .before .before .before .before .before .before .before .before .before .before .before .before .before .before .before .before .before .args .stand) (c .before .before .before .before .before .before .before .before .before .before .before .before .before .before .before .before .before .before .before .before .before .before .before .before .before .before .before .before .pre .0) (c .before .before .before .before .before .before .before .before .before .before .before .before .before .before .before .before .before .before .before .before .before .before .before .before .before .before .before .before .pre .1) _ _ (c .before .before .before .before .before .before .before .before .before .before .before .before .before .before .before .before .before .before .before .before .before .before .before .before .terms-of .ensures) (c .before .before .before .before .before .before .before .before .before .before .before .before .before .before .before .before .before .before .before .before .before .before .before .offer-numbers .ensures), c .before .before .before .before .before .before .before .before .before .before .run-batch .ensures .ahead .few, c .before .before .before .before .before .before .before .before .before .before .run-batch .kept .1 .1 .1 .1 .0, c .before .before .before .before .before .before .before .before .before .before .run-batch .kept .1 .1 .1 .1 .1 .0)
+rows-of-requires c κs =
+    let start = c .before .before .before .before .before .before .before .before .before .before .before .before .before .before .before .before .before .before .before .before .before .before .before .before .before .before .before .before in
+    let batch = c .before .before .before .before .before .before .before .before .before .before .run-batch in
+    (units-most _ _ _ _ _ _ (start .args .stand) (start .pre .0) (start .pre .1) _ _ (c .before .before .before .before .before .before .before .before .before .before .before .before .before .before .before .before .before .before .before .before .before .before .before .before .terms-of .ensures) (c .before .before .before .before .before .before .before .before .before .before .before .before .before .before .before .before .before .before .before .before .before .before .before .offer-numbers .ensures), batch .ensures .ahead .few, batch .kept .1 .1 .1 .1 .0, batch .kept .1 .1 .1 .1 .1 .0)
 
-sub-t43 : tie.Need-sub-t43
-sub-t43 c = count-grows _ _ _ _ _ _ (c .before .before .before .before .before .before .before .before .before .before .before .before .before .before .before .before .before .before .before .before .before .before .before .before .before .before .before .before .before .before .args .stand) (c .before .before .before .before .before .before .before .before .before .before .before .before .before .before .before .before .before .before .before .before .before .before .before .before .before .before .before .before .before .before .pre .0) (c .before .before .before .before .before .before .before .before .before .before .before .before .before .before .before .before .before .before .before .before .before .before .before .before .before .before .before .before .before .before .pre .1) _ _ (c .before .before .before .before .before .before .before .before .before .before .before .before .before .before .before .before .before .before .before .before .before .before .before .before .before .before .terms-of .ensures) (c .before .before .before .before .before .before .before .before .before .before .before .before .before .before .before .before .before .before .before .before .before .before .before .before .before .offer-numbers .ensures) _ _ _ _ _ (c .before .before .before .before .before .before .before .before .before .before .before .before .run-batch .ensures)
+sub-t41 : tie.Need-sub-t41
+sub-t41 c =
+    let start = c .before .before .before .before .before .before .before .before .before .before .before .before .before .before .before .before .before .before .before .before .before .before .before .before .before .before .before .before .before .before in
+    count-grows _ _ _ _ _ _ (start .args .stand) (start .pre .0) (start .pre .1) _ _ (c .before .before .before .before .before .before .before .before .before .before .before .before .before .before .before .before .before .before .before .before .before .before .before .before .before .before .terms-of .ensures) (c .before .before .before .before .before .before .before .before .before .before .before .before .before .before .before .before .before .before .before .before .before .before .before .before .before .offer-numbers .ensures) _ _ _ _ _ (c .before .before .before .before .before .before .before .before .before .before .before .before .run-batch .ensures)
 
-add-t45 : tie.Need-add-t45
-add-t45 c = omega (arith, c .before .before .before .before .before .before .before .before .before .before .before .before .before .run-batch .ensures .most, c .before .before .before .before .before .before .before .before .before .before .before .before .before .before .before .before .before .before .before .before .before .before .before .before .before .before .before .before .before .before .before .fits .n .fits)
+add-t43 : tie.Need-add-t43
+add-t43 c = omega (arith, c .before .before .before .before .before .before .before .before .before .before .before .before .before .before .run-batch .ensures .most, c .before .before .before .before .before .before .before .before .before .before .before .before .before .before .before .before .before .before .before .before .before .before .before .before .before .before .before .before .before .before .before .before .fits .n .fits)
 
 returns : tie.Need-returns
-returns c = batch-goes _ _ _ _ _ _ (c .before .before .before .before .before .before .before .before .before .before .before .before .before .before .before .before .before .before .before .before .before .before .before .before .before .before .before .before .before .before .before .args .stand) (c .before .before .before .before .before .before .before .before .before .before .before .before .before .before .before .before .before .before .before .before .before .before .before .before .before .before .before .before .before .before .before .pre .0) (c .before .before .before .before .before .before .before .before .before .before .before .before .before .before .before .before .before .before .before .before .before .before .before .before .before .before .before .before .before .before .before .pre .1) _ _ (c .before .before .before .before .before .before .before .before .before .before .before .before .before .before .before .before .before .before .before .before .before .before .before .before .before .before .before .terms-of .ensures) (c .before .before .before .before .before .before .before .before .before .before .before .before .before .before .before .before .before .before .before .before .before .before .before .before .before .before .offer-numbers .ensures) _ _ _ _ _ (c .before .before .before .before .before .before .before .before .before .before .before .before .before .run-batch .ensures) _ _ (c .before .before .rows-of .ensures) refl refl refl
+returns c =
+    let start = c .before .before .before .before .before .before .before .before .before .before .before .before .before .before .before .before .before .before .before .before .before .before .before .before .before .before .before .before .before .before .before .before in
+    batch-goes _ _ _ _ _ _ (start .args .stand) (start .pre .0) (start .pre .1) _ _ (c .before .before .before .before .before .before .before .before .before .before .before .before .before .before .before .before .before .before .before .before .before .before .before .before .before .before .before .before .terms-of .ensures) (c .before .before .before .before .before .before .before .before .before .before .before .before .before .before .before .before .before .before .before .before .before .before .before .before .before .before .before .offer-numbers .ensures) _ _ _ _ _ (c .before .before .before .before .before .before .before .before .before .before .before .before .before .before .run-batch .ensures) _ _ (c .before .before .before .rows-of .ensures) refl refl refl
 
 pub go-on-in-range-spec : {M : Type 1} → statement M
 go-on-in-range-spec =
@@ -55,7 +63,7 @@ go-on-in-range-spec =
     run-batch-requires
     (λ c. search needs) (λ c. search needs)
     rows-of-requires
-    sub-t43
-    add-t45
+    sub-t41
+    add-t43
     (λ c. search needs)
     returns)

@@ -1,9 +1,8 @@
 -- Each kind of call is carried out by its own function; that this is what the call's rows and its effect say is a law for each (proofs/Changes.antt,
 -- HourDecided.antt).
 -- Assumes nothing.
-use mathlib.Core.Path.{sym}
 use Rattle.engine.specs.Table.{table}
-use Rattle.engine.proofs.Changes.{take-carried, release-carried, move-carried}
+use Rattle.engine.proofs.Changes.{commitment-carried}
 use Rattle.engine.proofs.HourReady.{void-ready}
 use Rattle.engine.proofs.HourDecided.{void-carried}
 use borrow.Author.Needs.{needs}
@@ -11,45 +10,46 @@ use Rattle.engine.proofs.carry_out.Statement.{statement}
 use Rattle.engine.proofs.carry_out.Tie as tie
 
 store-hour-requires : tie.Need-store-hour-requires
-store-hour-requires c κs = void-ready (c .before .before .before .before .before .before .before .before .before .before .before .before .before .before .before .pre) _ _ _ _ (c .before .before .before .before .before .before .hour-index .ensures .0) (c .before .before .before .before .decide-void .ensures)
+store-hour-requires c κs =
+    void-ready (c .before .before .before .before .before .before .before .before .before .before .before .before .before .before .before .pre) _ _ _ _
+    (c .before .before .before .before .before .before .hour-index .ensures .0)
+    (c .before .before .before .before .decide-void .ensures)
 
 returns : tie.Need-returns
-returns c = rw (c .before .before .before .before .before .before .before .before .call .given .1) (rw (c .changed .ensures) (take-carried _ _ (table (c .before .before .before .before .before .before .before .before .before .before .before .before .before .before .before .args .commitment .now) (c .before .before .before .before .before .before .before .before .before .before .before .before .before .before .before .args .mark .now) (c .before .before .before .before .before .before .before .before .before .before .before .before .before .before .before .args .energy .now) (c .before .before .before .before .before .before .before .before .before .before .before .before .before .before .before .args .amounts .now)) _ _ _ _ _ _ (c .before .before .before .before .before .before .before .before .before .before .before .before .before .before .before .pre .long) _ _ _ (rw (sym (c .before .before .before .before .before .before .take-change .ensures)) (c .before .before .before .change .ensures))))
+returns c =
+    let start = (c .before .before .before .before .before .before .before .before .before .before .before .before .before .before .before) in
+    rw (c .before .before .before .before .before .before .before .before .call .given .1)
+    (rw (c .changed .ensures)
+    (commitment-carried _ _ (table (start .args .commitment .now) (start .args .mark .now) (start .args .energy .now) (start .args .amounts .now)) _ _ _ _ _ _
+    (start .pre .long) _ _
+    (c .before .before .before .before .before .before .change-of .ensures)
+    (c .before .before .before .change-commitments .ensures)))
 
 returns-2 : tie.Need-returns-2
-returns-2 c = rw (c .before .before .before .before .before .before .before .before .call2 .given .1) (rw (c .changed2 .ensures) (release-carried _ _ (table (c .before .before .before .before .before .before .before .before .before .before .before .before .before .before .before .args .commitment .now) (c .before .before .before .before .before .before .before .before .before .before .before .before .before .before .before .args .mark .now) (c .before .before .before .before .before .before .before .before .before .before .before .before .before .before .before .args .energy .now) (c .before .before .before .before .before .before .before .before .before .before .before .before .before .before .before .args .amounts .now)) _ _ _ _ _ _ (c .before .before .before .before .before .before .before .before .before .before .before .before .before .before .before .pre .long) _ _ _ (rw (sym (c .before .before .before .before .before .before .release-change .ensures)) (c .before .before .before .change2 .ensures))))
+returns-2 c =
+    rw (c .before .before .before .before .before .before .before .before .before .before .before .before .before .before .call2 .given .1)
+    (rw (c .before .before .before .before .before .before .before .before .before .before .before .before .part-of .ensures) at (c .before .before .before .before .before .before .record-hour .ensures))
 
 returns-3 : tie.Need-returns-3
-returns-3 c = rw (c .before .before .before .before .before .before .before .before .call3 .given .1) (rw (c .changed3 .ensures) (move-carried _ _ (table (c .before .before .before .before .before .before .before .before .before .before .before .before .before .before .before .args .commitment .now) (c .before .before .before .before .before .before .before .before .before .before .before .before .before .before .before .args .mark .now) (c .before .before .before .before .before .before .before .before .before .before .before .before .before .before .before .args .energy .now) (c .before .before .before .before .before .before .before .before .before .before .before .before .before .before .before .args .amounts .now)) _ _ _ _ _ _ (c .before .before .before .before .before .before .before .before .before .before .before .before .before .before .before .pre .long) _ _ _ _ (rw (sym (c .before .before .before .before .before .before .move-change .ensures)) (c .before .before .before .change3 .ensures))))
-
-returns-4 : tie.Need-returns-4
-returns-4 c = rw (c .before .before .before .before .before .before .before .before .before .before .before .before .before .before .call4 .given .1) (rw (c .before .before .before .before .before .before .before .before .before .before .before .before .part-of .ensures) at (c .before .before .before .before .before .before .record-hour .ensures))
-
-returns-5 : tie.Need-returns-5
-returns-5 c = rw (c .before .before .before .before .before .before .before .before .before .before .before .before .before .before .call5 .given .1) (rw (c .before .before .before .before .before .before .before .before .before .before .before .before .part-of2 .ensures) at (c .before .before .before .before .before .before .record-hour2 .ensures))
-
-returns-6 : tie.Need-returns-6
-returns-6 c = rw (c .before .before .before .before .before .before .before .before .before .before .before .before .before .before .before .call6 .given .1) (void-carried (c .before .before .before .before .before .before .before .before .before .before .before .before .before .before .before .before .before .before .before .before .before .before .pre) _ _ _ _ _ _ (c .before .before .before .before .before .before .before .before .before .before .before .before .before .hour-index .ensures .0) (c .before .before .before .before .before .before .before .before .before .before .before .decide-void .ensures) (c .before .before .before .before .before .before .store-hour .ensures .1 _) (c .before .before .before .before .before .before .store-hour .ensures .0))
+returns-3 c =
+    rw (c .before .before .before .before .before .before .before .before .before .before .before .before .before .before .before .call3 .given .1)
+    (void-carried (c .before .before .before .before .before .before .before .before .before .before .before .before .before .before .before .before .before .before .before .before .before .before .pre) _ _ _ _ _ _
+    (c .before .before .before .before .before .before .before .before .before .before .before .before .before .hour-index .ensures .0)
+    (c .before .before .before .before .before .before .before .before .before .before .before .decide-void .ensures)
+    (c .before .before .before .before .before .before .store-hour .ensures .1 _)
+    (c .before .before .before .before .before .before .store-hour .ensures .0))
 
 pub carry-out-spec : {M : Type 1} → statement M
 carry-out-spec =
     tie.close
     (tie.spec
     (λ c. search needs) (λ c κs. search needs) (λ c κs. search needs) (λ c κs. search needs) (λ c. search needs)
-    (λ c κs. search needs) (λ c κs. search needs) (λ c κs. search needs) (λ c. search needs) (λ c κs. search needs)
-    (λ c κs. search needs) (λ c κs. search needs) (λ c. search needs) (λ c κs. search needs) (λ c κs. search needs)
-    (λ c. search needs) (λ c κs. search needs) (λ c κs. search needs) (λ c. search needs) (λ c κs. search needs)
-    (λ c. search needs) (λ c. search needs) (λ c κs. search needs)
+    (λ c κs. search needs) (λ c κs. search needs) (λ c. search needs) (λ c κs. search needs) (λ c. search needs)
+    (λ c. search needs) (λ c κs. search needs)
     store-hour-requires
     (λ c. search needs) (λ c. search needs)
     returns
-    (λ c. search needs) (λ c. search needs)
+    (λ c. search needs) (λ c. search needs) (λ c. search needs) (λ c. search needs) (λ c. search needs)
     returns-2
-    (λ c. search needs) (λ c. search needs)
-    returns-3
-    (λ c. search needs) (λ c. search needs) (λ c. search needs) (λ c. search needs) (λ c. search needs)
-    returns-4
-    (λ c. search needs) (λ c. search needs) (λ c. search needs) (λ c. search needs) (λ c. search needs)
-    returns-5
     (λ c. search needs) (λ c. search needs) (λ c. search needs) (λ c. search needs)
-    returns-6)
+    returns-3)
