@@ -1,3 +1,4 @@
 pub mod Calls
 pub mod Changes
+pub mod Rows
 pub mod Hours

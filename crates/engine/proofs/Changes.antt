@@ -42,7 +42,7 @@ use Rattle.decisions.specs.Calls.{commitmentOf}
 use Rattle.decisions.specs.Changes.{hourIndex, entryIndex, takeChange, releaseChange, moveChange, changeFor, changeOf}
 use Rattle.decisions.proofs.Changes.{take-tests, release-tests, move-tests, in-hour, entry-in, entry-lt, Passed, changed-passed}
 use Rattle.engine.specs.Table.{Table, table, bookIn, Long, Under, Matches, Carried}
-use Rattle.engine.specs.Changed.{Changed, changedBy, shifted, verdictIn, changedIn}
+use Rattle.commitments.specs.Changed.{Changed, changedBy, shifted, verdictIn, changedIn}
 
 -- what follows two rows matters only where both pass
 gated : (a b : Bool) (r q : Refusal) (xs ys : List Row) → (a ≡ false → b ≡ false → xs ≡ ys) → verdict (row r a ∷ row q b ∷ xs) ≡ verdict (row r a ∷ row q b ∷ ys)

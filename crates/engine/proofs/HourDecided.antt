@@ -48,7 +48,7 @@ use Rattle.decisions.specs.Hours.{hourRefused, hourChanged, changeBy, voidDecid
 use Rattle.decisions.proofs.Changes.{in-hour, hour-lt}
 use Rattle.engine.specs.declared.Done.{Done}
 use Rattle.engine.specs.Table.{Table, bookIn, Under, Ready, Matches, Carried}
-use Rattle.engine.specs.Changed.{Stored}
+use Rattle.engine.specs.Stored.{Stored}
 use Rattle.engine.proofs.HourReady.{HourAt, at-hour, at-held, at-reading, at-day, at-place}
 
 -- a change carried out on a book, and one that is not accepted

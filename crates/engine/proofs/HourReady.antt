@@ -52,7 +52,7 @@ use Rattle.decisions.specs.Changes.{hourIndex}
 use Rattle.decisions.specs.Hours.{hourRefused, hourChanged, changeBy, voidDecided, standingRow, recordDecided}
 use Rattle.decisions.proofs.Changes.{hour-lt}
 use Rattle.engine.specs.Table.{Table, bookIn, Long, Under, Ready}
-use Rattle.engine.specs.Changed.{StoreReady}
+use Rattle.engine.specs.Stored.{StoreReady}
 
 -- the place of an hour from 1 to 24
 hour-back : (hour : ℕ) → 1 ≤ hour → hour ≤ 24 → (hourIndex hour ≡ hour - 1) × (hourIndex hour + 1 ≡ hour)

@@ -11,7 +11,7 @@ use Rattle.state.specs.Book.{noGrains, pastAmounts, stored, withHour}
 use Rattle.numbers.specs.Numbers.{hourItems, commitmentsOf, energiesOf, amountsOf, differences}
 use Rattle.decisions.specs.declared.HourChange.{HourChange}
 use Rattle.engine.specs.Table.{table}
-use Rattle.engine.specs.Changed.{Stored}
+use Rattle.engine.specs.Stored.{Stored}
 
 module _ (units h entry : ℕ) (d : HourChange) (c m e : List ℕ) (a rows : List ℤ) where
   pub stored-none : d .accepted ≡ false → Stored units h entry d (table c m e a) rows (table c m e a) rows

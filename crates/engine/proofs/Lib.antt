@@ -1,4 +1,3 @@
-pub mod ChangeStores
 pub mod Changes
 pub mod HourStored
 pub mod HourReady

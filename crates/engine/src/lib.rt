@@ -15,7 +15,7 @@ ghost use Rattle.numbers.specs.Offers.{offerSize, offerIn};
 ghost use Rattle.numbers.specs.Numbers.{hourItems};
 ghost use Rattle.decisions.specs.Calls.{recordOf, callOf};
 ghost use Rattle.engine.specs.Table.{table, Long, Ready, Carried};
-ghost use Rattle.engine.specs.Changed.{changedIn, Stored, StoreReady};
+ghost use Rattle.engine.specs.Stored.{Stored, StoreReady};
 use decisions::Call;
 use decisions::CommitmentChange;
 use decisions::HourChange;
@@ -29,37 +29,6 @@ pub struct Done {
     pub answer: Answer,
     pub place: u64,
     pub hour: u64,
-}
-
-// A take, release or move: it is tested, and where it is accepted what is given goes off one commitment and what comes is added to the other.
-fn change_commitments(
-    commitment: &mut [u64],
-    mark: &[u64],
-    offers: &[u64],
-    units: u64,
-    c: CommitmentChange,
-) -> Answer
-    requires { ⌜ (length (now commitment) ≡ entries) × (length (now mark) ≡ hours) × (length (now offers) ≡ offerSize * entries) ⌝ }
-    ensures { λ r. ⌜ record { commitment = now (commitment .exit); answer = r } ≡ changedIn (now (commitment .entry)) (now (mark .entry)) (now (offers .entry)) units c ⌝ }
-{
-    let h = decisions::hour_index(c.hour);
-    let from = decisions::entry_index(c.hour, c.from);
-    let to = decisions::entry_index(c.hour, c.to);
-    let settled = mark[h] == 1;
-    let source = HubKwh(commitment[from]);
-    let held = HubKwh(commitment[to]);
-    let last = numbers::limit_in(offers, units::member_at(units, to % 8), to);
-    let verdict = decisions::change_verdict(units, c, settled, source, held, last);
-    match verdict {
-        Verdict::Refused(refusal) => Answer::Refused(refusal),
-        Verdict::Accepted => {
-            let left = source.above(c.out);
-            commitment[from] = left.0;
-            let then = HubKwh(commitment[to]).plus(c.into);
-            commitment[to] = then.0;
-            Answer::Accepted
-        }
-    }
 }
 
 // An accepted settle, restate or void stored in its hour, and the differences of the amounts kept in an entry of the rows.
@@ -150,7 +119,7 @@ pub fn carry_out(
     match call {
         Call::Commitment(c) => {
             let change = decisions::change_of(c);
-            changed(change_commitments(commitment, mark, offers, units, change))
+            changed(commitments::change(commitment, mark, offers, units, change))
         }
         Call::Record(c) => {
             let part = decisions::part_of(text, c.begin, c.end);

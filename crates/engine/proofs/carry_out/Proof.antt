@@ -23,7 +23,7 @@ returns c =
     (commitment-carried _ _ (table (start .args .commitment .now) (start .args .mark .now) (start .args .energy .now) (start .args .amounts .now)) _ _ _ _ _ _
     (start .pre .long) _ _
     (c .before .before .before .before .before .before .change-of .ensures)
-    (c .before .before .before .change-commitments .ensures)))
+    (c .before .before .before .change .ensures)))
 
 returns-2 : tie.Need-returns-2
 returns-2 c =

@@ -24,7 +24,7 @@ use Rattle.numbers.specs.Offers.{offerIn}
 use Rattle.decisions.specs.declared.CommitmentChange.{CommitmentChange}
 use Rattle.decisions.specs.Changes.{hourIndex, entryIndex, changeTests}
 use Rattle.decisions.proofs.Changes.{changed-passed}
-use Rattle.engine.specs.Changed.{Changed, verdictIn, changedIn}
+use Rattle.commitments.specs.Changed.{Changed, verdictIn, changedIn}
 
 -- after a store of less than what was there, no number is larger
 less-after : (c : List ℕ) (i j x : ℕ) → i < length c → x ≤ getD c i 0 → getD (set c i x) j 0 ≤ getD c j 0
