@@ -4,7 +4,7 @@
 -- Assumes nothing.
 use mathlib.Core.Path.{_≡_, sym, _∙_, ap}
 use mathlib.Core.List.{List}
-use Prim.Native.Nat.{ℕ, zero, suc, _+_, _*_, _-_, _/_, _%_, _≤_, _<_}
+use Prim.Native.Nat.{ℕ, zero, suc, _+_, _*_, _/_, _%_, _≤_, _<_}
 use native.Mathlib.Nat.{add-mul, mul-zero, mod-lt, div-add-mod', le-of-mul-le-mul-right, zero-mod, zero-div}
 use native.Mathlib.Decide.{decLt}
 use native.Mathlib.Omega.{arith}

@@ -2,16 +2,15 @@
 -- of its own rows, since 12 never comes up, and the rows of the entries so far with those of its own are the postings appended.
 -- Assumes nothing.
 use mathlib.Core.Path.{_≡_, refl, sym, ap, ap₂, _∙_, subst}
-use mathlib.Core.Bool.{Bool, true, false, _&&_}
+use mathlib.Core.Bool.{true}
 use mathlib.Core.List.{List}
 use Prim.Native.Nat.{ℕ, zero, suc, _+_, _*_, _^_, _≤_, _<_}
-use native.Mathlib.Nat.{mul-add, add-assoc}
+use native.Mathlib.Nat.{mul-add}
 use native.Mathlib.Omega.{arith}
 use lib.IntN.{ℤ, pos}
 use lib.ListN.{length, getD, set}
 use lib.Seq.{getD-set-same, getD-set-other}
 use Rattle.finite.proofs.Tests.{and-left, and-right}
-use Rattle.units.specs.Units.{memberAt, members}
 use Rattle.units.proofs.Laws.{place-lt, count-le}
 use Rattle.sheet.specs.declared.Sheet.{Sheet}
 use Rattle.sheet.proofs.InRange.{in-range}
@@ -22,7 +21,7 @@ use Rattle.state.specs.Ranges.{bookHolds}
 use Rattle.postings.specs.declared.Posting.{Posting}
 use Rattle.postings.specs.Journal.{noPosting, countHolds}
 use Rattle.postings.specs.Plan.{planRows}
-use Rattle.postings.specs.Entries.{mostEntries, entrySize, entryPosting, EntryRows}
+use Rattle.postings.specs.Entries.{mostEntries, entrySize, EntryRows}
 use Rattle.postings.proofs.Counted.{count-most}
 use Rattle.postings.proofs.Entries.{entry-plan}
 use Rattle.ledger.specs.declared.Answer.{Answer}
@@ -36,15 +35,15 @@ use Rattle.ledger.proofs.Keeps.{Kept}
 use Rattle.decisions.specs.Calls.{decoded, callOf}
 use Rattle.decisions.proofs.Calls.{decoded-is}
 use Rattle.engine.specs.declared.Done.{Done}
-use Rattle.engine.specs.Table.{Table, bookIn, Long, Under, Ready, Posts, Matches, Carried}
+use Rattle.engine.specs.Table.{Table, bookIn, Long, Under, Ready, Matches, Carried}
 use Rattle.numbers.specs.Numbers.{hourItems}
 use Rattle.single.specs.Journal.{posted}
 use Rattle.single.specs.Single.{entriesOf}
 use Rattle.batch.specs.Run.{Running, replied, answered, ranAll}
-use Rattle.batch.specs.Stands.{ranWith, listAt, Fit, At, BatchReady, Ahead}
+use Rattle.batch.specs.Stands.{listAt, Fit, At, Ahead}
 use Rattle.single.proofs.Posted.{posted-more}
 use Rattle.single.proofs.Counts.{one-entry, Counts, counts}
-use Rattle.batch.proofs.Along.{kept-here, places-here, nextDecision, next-is}
+use Rattle.batch.proofs.Along.{kept-here, places-here, next-is}
 
 -- what is posted is one entry, or none
 some-entry : (a : Answer) (size : ℕ) → 0 < size * entriesOf a → entriesOf a ≡ 1

@@ -8,7 +8,6 @@ use native.Mathlib.Omega.{arith}
 use lib.ListN.{length}
 use Rattle.sheet.specs.declared.Sheet.{Sheet}
 use Rattle.sheet.specs.Ranges.{sheetHolds}
-use Rattle.postings.specs.declared.Posting.{Posting}
 use Rattle.ledger.specs.declared.Decision.{Decision}
 use Rattle.ledger.specs.Ledger.{Call}
 use Rattle.ledger.specs.Calls.{State, fitsIn, carriedOut, requestOf, decidedOn, requestDecided, journalAfter, outcomeOf}
@@ -18,7 +17,7 @@ use Rattle.ledger.proofs.Keeps.{Kept, carried-keeps, carried-long}
 use Rattle.engine.specs.Table.{Table, bookIn}
 use Rattle.single.specs.Journal.{posted, performed}
 use Rattle.batch.specs.Run.{Running, stateOf, answered, turned, ranAll}
-use Rattle.batch.specs.Stands.{refusalAt, ranWith, Fit, At}
+use Rattle.batch.specs.Stands.{refusalAt, Fit, At}
 use Rattle.single.proofs.Posted.{posted-paste}
 
 -- neither 9 nor 12

@@ -1,9 +1,9 @@
 -- What a batch leaves is what the list of calls needs to go on: where 9 or 12 holds every call is refused, otherwise the batch's numbers are those after its calls.
 -- Assumes nothing.
-use mathlib.Core.Path.{_≡_, refl, sym, ap, _∙_, subst}
-use mathlib.Core.Bool.{Bool, true, _&&_}
+use mathlib.Core.Path.{_≡_, sym, ap, _∙_}
+use mathlib.Core.Bool.{true}
 use mathlib.Core.List.{List}
-use Prim.Native.Nat.{ℕ, _+_, _-_, _*_, _≤_, _<_}
+use Prim.Native.Nat.{ℕ, _+_, _-_, _*_, _≤_}
 use native.Mathlib.Nat.{mul-le-mul}
 use native.Mathlib.Omega.{arith}
 use lib.IntN.{ℤ}
@@ -26,10 +26,9 @@ use Rattle.numbers.specs.Offers.{OffersOf}
 use Rattle.engine.specs.Table.{Table, bookIn, Long, Under}
 use Rattle.batch.specs.declared.Batch.{Batch}
 use Rattle.batch.specs.declared.Stand.{Stand}
-use Rattle.batch.specs.declared.Step.{Step}
 use Rattle.single.specs.Journal.{posted}
 use Rattle.batch.specs.Run.{Running, ranAll}
-use Rattle.batch.specs.Stands.{tableOf, ranOf, refusalAt, refusedFrom, refusedStep, listAt, Stands, Due, Goes, Fit, At, BatchReady, Batched}
+use Rattle.batch.specs.Stands.{tableOf, ranOf, refusedFrom, refusedStep, listAt, Stands, Due, Goes, Fit, At, BatchReady, Batched}
 use Rattle.batch.proofs.Along.{none-refuses, kept-here, places-here}
 use Rattle.batch.proofs.Refused.{refuses-all, from-here, unchanged}
 

@@ -10,10 +10,10 @@ use native.Mathlib.Omega.{arith}
 use Rattle.sheet.specs.declared.Sheet.{Sheet}
 use Rattle.sheet.specs.Ranges.{sheetHolds}
 use Rattle.ledger.specs.Ledger.{Call, Reply, startOf}
-use Rattle.ledger.specs.Calls.{State, Moved, fitsIn, carriedOut, requestOf, decidedOn, journalAfter}
-use Rattle.ledger.specs.Requests.{askedAt, callFor, callAt}
+use Rattle.ledger.specs.Calls.{Moved, fitsIn, carriedOut, requestOf, decidedOn, journalAfter}
+use Rattle.ledger.specs.Requests.{askedAt, callAt}
 use Rattle.ledger.proofs.Parts.{refusedCall, refused-9, refused-12}
-use Rattle.decisions.specs.Calls.{decoded, callOf, callStart}
+use Rattle.decisions.specs.Calls.{decoded, callStart}
 use Rattle.decisions.proofs.Calls.{decoded-is, start-is}
 use Rattle.single.specs.Journal.{performed}
 use Rattle.batch.specs.Run.{Running, stateOf, replied, answered, turned, ranAll}

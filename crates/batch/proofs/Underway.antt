@@ -1,6 +1,6 @@
 -- The loop over the calls of a batch: what holds before each call, and that it holds after it.
 -- Assumes nothing.
-use mathlib.Core.Path.{_≡_, refl, sym, ap, _∙_}
+use mathlib.Core.Path.{_≡_, refl, _∙_}
 use mathlib.Core.Bool.{Bool, true, false, _&&_}
 use mathlib.Core.List.{List}
 use Prim.Native.Nat.{ℕ, zero, suc, _+_, _*_, _^_, _≤_, _<_}
@@ -19,7 +19,6 @@ use Rattle.decisions.specs.declared.Call.{Call}
 use Rattle.decisions.specs.Calls.{decoded, callOf}
 use Rattle.engine.specs.declared.Done.{Done}
 use Rattle.engine.specs.Table.{Table, Long, Ready, Carried}
-use Rattle.batch.specs.declared.Batch.{Batch}
 use Rattle.single.specs.Single.{entriesOf}
 use Rattle.batch.specs.Run.{replied}
 use Rattle.batch.specs.Stands.{BatchReady, Ahead, Batched}

@@ -6,7 +6,7 @@ use mathlib.Core.List.{List}
 use Prim.Native.Nat.{ℕ}
 use lib.Dec.{eqb}
 use Rattle.ledger.specs.declared.Asked.{Asked}
-use Rattle.ledger.specs.Ledger.{Call as LedgerCall, take, release, move, settle, restate, void, startOf}
+use Rattle.ledger.specs.Ledger.{take, release, move, settle, restate, void, startOf}
 use Rattle.ledger.specs.Requests.{partOf, callFor}
 use Rattle.decisions.specs.declared.CommitmentKind.{CommitmentKind}
 use Rattle.decisions.specs.declared.CommitmentKind.the-variants.{Take, Release, Move}

@@ -9,7 +9,6 @@ use Rattle.ledger.specs.Requests.{partOf}
 use Rattle.decisions.specs.declared.CommitmentKind.{CommitmentKind}
 use Rattle.decisions.specs.declared.CommitmentKind.the-variants.{Take, Release, Move}
 use Rattle.decisions.specs.declared.CommitmentCall.{CommitmentCall}
-use Rattle.decisions.specs.declared.RecordCall.{RecordCall}
 use Rattle.decisions.specs.declared.Call.{Call}
 use Rattle.decisions.specs.declared.Call.the-variants.{Commitment, Record, Void}
 

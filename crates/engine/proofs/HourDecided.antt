@@ -37,7 +37,7 @@ use Rattle.ledger.specs.declared.Verdict.{Verdict}
 use Rattle.ledger.specs.declared.Verdict.the-variants.{Accepted as passes, Refused as fails}
 use Rattle.ledger.specs.declared.Decision.{Decision}
 use Rattle.ledger.specs.Ledger.{given, void}
-use Rattle.ledger.specs.Calls.{Row, row, verdict, badHour, isSettled, textRows, recordTests, recordRows, voidRows, requestRows, noPlan, placeAfter, byVerdict, refusedWith, postedWith, recordedAt, voidedAt, acceptedIn, requestOf, requestDecided}
+use Rattle.ledger.specs.Calls.{Row, verdict, badHour, isSettled, textRows, recordTests, recordRows, voidRows, requestRows, noPlan, placeAfter, byVerdict, refusedWith, postedWith, recordedAt, voidedAt, acceptedIn, requestOf, requestDecided}
 use Rattle.numbers.specs.Numbers.{hourItems, differences}
 use Rattle.numbers.proofs.Packed.{amount-in, difference-at, differences-length}
 use Rattle.numbers.proofs.Pasted.{pasted-before, pasted-in}

@@ -19,7 +19,6 @@ use Rattle.state.specs.Ranges.{bookHolds}
 use Rattle.postings.specs.declared.Plan.{Plan}
 use Rattle.postings.specs.Journal.{countHolds}
 use Rattle.postings.specs.Plan.{planOf}
-use Rattle.ledger.specs.declared.Answer.{Answer}
 use Rattle.ledger.specs.declared.Decision.{Decision}
 use Rattle.ledger.specs.Ledger.{Call}
 use Rattle.ledger.specs.Calls.{requestOf, requestDecided}

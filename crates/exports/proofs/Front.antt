@@ -13,7 +13,7 @@ use base.Logic.{ent, sep}
 use base.Fml.{ftrue}
 use prog.Wp.{Heap}
 use ghost.Atoms.{Atoms, sem}
-use types.Kit.{Given, ‵, _⊛_, _$_, _∵_, !, qed, by, move, drop, use1, use2, split, fsplit, fjoin, feqI, frame, done}
+use types.Kit.{Given, ‵, _⊛_, _$_, _∵_, !, qed, move, drop, use1, use2, split, fsplit, fjoin, feqI, frame, done}
 use types.SemTy.{SemTy, cells, Arr}
 use denote.Memory.{mem}
 use denote.Steps.{nothing}

@@ -16,7 +16,7 @@ use base.Logic.{ent, ex}
 use base.Fml.{fat, fsep}
 use prog.Wp.{Heap}
 use ghost.Atoms.{Atoms, sem}
-use types.Kit.{Given, ‵, some, _$_, _∵_, !, qed, by, move, drop, use1, fsplit, fjoin, fpick, fpack, feqL, feqI, rewrite, show}
+use types.Kit.{Given, ‵, _$_, _∵_, !, qed, by, move, drop, use1, fsplit, fjoin, fpick, fpack, feqL, feqI, rewrite, show}
 use types.SemTy.{cells, Arr}
 use types.Share.{arr-parts}
 use denote.Array.{Array, arrayVal, array-repeat, array-tells, each}

@@ -40,7 +40,7 @@ use denote.Triple.Statement.{Contract, Triple}
 use denote.Triple.Call.{calls-at}
 use denote.Triple.Clauses.{Ended, Clauses, closing, ensured, lasts}
 use denote.Triple.Table.{entered, cited}
-use denote.Triple.Walked.{says, needs, Stays, hasOf, gave-slice, stay-dropped, walkOf, goes-gave-slice, Goes, Silent, goes-dropped, Walks, ends-at, walked, walk-meets}
+use denote.Triple.Walked.{says, Stays, hasOf, gave-slice, stay-dropped, walkOf, goes-gave-slice, Goes, Silent, goes-dropped, Walks, ends-at, walked, walk-meets}
 use denote.Exit.{yes}
 use denote.Signature.{Slot, plain, typesAt}
 use Rattle.postings.specs.declared.Posting.{Posting}

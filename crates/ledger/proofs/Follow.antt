@@ -30,7 +30,6 @@ use Rattle.ledger.specs.Ledger.{Kept, none, kept, Ledger, Outcome, stand
 use Rattle.ledger.specs.Calls.{State, badHour, heldKwh, lastKwh, isSettled, refusedWith, changedTo, withHeld}
 use Rattle.ledger.specs.Agrees.{markOf, Agrees}
 use Rattle.ledger.proofs.Rows.{refusedBy}
-use Rattle.ledger.proofs.Fits.{alike}
 use Rattle.ledger.proofs.Held.{held-at}
 
 -- the state after a decision

@@ -1,7 +1,7 @@
 -- The commitments of the ledger are what accepted calls took and moved in less what they released and moved out: each call keeps the balance.
 -- Assumes nothing.
 use mathlib.Core.Path.{_≡_, refl, ap, sym, _∙_}
-use mathlib.Core.Bool.{Bool, true, false, cond, not, _&&_}
+use mathlib.Core.Bool.{Bool, true, false, cond, _&&_}
 use mathlib.Core.List.{List, [], _∷_, _++_}
 use Prim.Native.Nat.{ℕ, _+_, _-_, _≤_}
 use native.Mathlib.Nat.{add-zero}
@@ -11,7 +11,7 @@ use borrow.Author.Tests.{eqb-true, eqb-false, ne-eqb, ltb-false}
 use Rattle.finite.proofs.Tests.{and-left, and-right}
 use Rattle.sheet.specs.declared.Sheet.{Sheet}
 use Rattle.ledger.specs.Ledger.{Call, take, release, move, settle, restate, void, Ledger, Reply, Outcome, at, withHeld, always, releaseConditions, moveConditions, conditionsOf, startOf, effectOf, step, run}
-use Rattle.ledger.specs.Reckoned.{accepted, counted, tookFor, gaveFor, tally, took, gave}
+use Rattle.ledger.specs.Reckoned.{counted, tookFor, gaveFor, tally, took, gave}
 use Rattle.ledger.proofs.Told.{Clear, none, more, Told, refuses, accepts, step-told}
 
 -- a commitment written is read at its hour and unit alone

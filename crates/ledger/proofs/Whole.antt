@@ -19,7 +19,7 @@ use Rattle.ledger.specs.Ledger.{Call, Ledger, Reply, Outcome, Condition,
 use Rattle.ledger.specs.Reckoned.{accepted}
 use Rattle.ledger.specs.Calls.{State, carriedOut, requestOf, ranFrom, begun}
 use Rattle.ledger.specs.Agrees.{Agrees}
-use Rattle.ledger.specs.Demand.{noneHolds, replyAt, Demand}
+use Rattle.ledger.specs.Demand.{noneHolds, replyAt}
 use Rattle.ledger.proofs.Told.{Numbered, none, more, numbered, effect-accepted}
 use Rattle.ledger.proofs.Ready.{Ready, step-ready}
 use Rattle.ledger.proofs.Simulate.{follow}

@@ -1,6 +1,6 @@
 -- What a list of calls and their replies tells without any ledger: what accepted calls took and gave up, and the last accepted record of
 -- an hour. Demand 3 reckons commitments and amounts from these.
-use Prim.Native.Nat.{ℕ, zero, suc, _+_, _-_}
+use Prim.Native.Nat.{ℕ, zero, suc, _+_}
 use mathlib.Core.Bool.{Bool, cond, _&&_}
 use mathlib.Core.List.{List, [], _∷_}
 use lib.Dec.{eqb}

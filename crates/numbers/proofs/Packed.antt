@@ -7,7 +7,6 @@ use native.Mathlib.Omega.{arith}
 use lib.IntN.{ℤ, pos, _-ℤ_}
 use lib.ListN.{length, getD, set, replicate}
 use lib.Seq.{ext-getD}
-use Rattle.finite.specs.Finite.{tabulate}
 use Rattle.finite.proofs.Tables.{length-tabulate, getD-tabulate, tabulate-same, tabulate-replicate}
 use Rattle.energy.specs.declared.HubKwh.{HubKwh}
 use Rattle.energy.specs.declared.HubGrains.{HubGrains}

@@ -1,5 +1,5 @@
 -- One call by itself, decided in two steps: first all but the postings up to the count, then, where one of those is out of its range, 12.
-use Prim.Native.Nat.{ℕ, _-_, _*_, _≤_, _<_}
+use Prim.Native.Nat.{ℕ, _-_, _≤_, _<_}
 use mathlib.Core.Path.{_≡_}
 use mathlib.Core.Bool.{Bool, true, false, cond}
 use mathlib.Core.List.{List}

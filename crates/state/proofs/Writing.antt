@@ -17,7 +17,7 @@ use Rattle.units.specs.Units.{memberAt}
 use Rattle.settlement.specs.declared.Amounts.{Amounts}
 use Rattle.settlement.specs.declared.HourResult.{HourResult}
 use Rattle.state.specs.declared.Book.{Book}
-use Rattle.state.specs.Sizes.{hours, places, items, entries, entryOf}
+use Rattle.state.specs.Sizes.{hours, places, items, entryOf}
 use Rattle.state.specs.Book.{noKwh, noGrains, pastAmounts, commitmentAt, markAt, energyAt, amountsAt, itemOf, amountAt, hourCommitments, hourAmounts, Sized, withCommitment, stored, withHour}
 use Rattle.state.proofs.Entries.{and-false, same-or-not, entry-lt, stored-at, length-stored}
 

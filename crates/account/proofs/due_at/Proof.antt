@@ -1,6 +1,6 @@
 -- By what comes at the place.
 -- Assumes nothing.
-use Prim.Native.Nat.{ℕ, _-_}
+use Prim.Native.Nat.{ℕ}
 use mathlib.Core.Path.{ap, sym, _∙_}
 use Rattle.account.specs.declared.Due.{Due}
 use Rattle.account.specs.Day.{dueWith}

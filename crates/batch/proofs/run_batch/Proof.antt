@@ -2,13 +2,12 @@
 -- The measure is the number of calls left.
 -- Assumes nothing.
 use mathlib.Core.Path.{_≡_, sym, ap, _∙_}
-use Prim.Native.Nat.{ℕ, _+_, _-_, _<_}
+use Prim.Native.Nat.{_+_, _-_, _<_}
 use native.Mathlib.Omega.{arith}
-use lib.ListN.{length, length-set}
 use borrow.Author.Needs.{needs}
 use Rattle.ledger.specs.Requests.{askedAt}
 use Rattle.decisions.specs.Calls.{decoded}
-use Rattle.engine.specs.Table.{table, Long}
+use Rattle.engine.specs.Table.{table}
 use Rattle.single.proofs.Counts.{one-entry}
 use Rattle.batch.proofs.Underway.{Underway, going, begun, ready-now, total-fits, onward, ended}
 use Rattle.batch.proofs.run_batch.Statement.{statement}

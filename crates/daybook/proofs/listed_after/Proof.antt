@@ -1,7 +1,6 @@
 -- By the place, then by the number listed.
 -- Assumes nothing.
 use Rattle.daybook.specs.Turns.{listedAfter}
-use Rattle.decimal.proofs.Laws.{then}
 use borrow.Author.Tests.{lt-ltb, le-ltb}
 use borrow.Author.Needs.{needs}
 use Rattle.daybook.proofs.listed_after.Statement.{statement}

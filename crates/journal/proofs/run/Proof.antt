@@ -1,7 +1,7 @@
 -- `journal::run` meets its contract: a walk of its MIR, by hand, without branch: the empty book is made, and the list and the answers are given to `run_on`
 -- for good. It knows of both only that each meets its contract; the promise about every list of calls holds of what the calls leave. Assumes nothing.
 use mathlib.Core.Path.{_≡_, refl}
-use Prim.Native.Nat.{ℕ, _<_, _-_}
+use Prim.Native.Nat.{ℕ}
 use mathlib.Core.List.{[], _∷_, List}
 use lib.Dec.{T as Holds, lit<}
 use lib.ListN.{length}
@@ -29,7 +29,7 @@ use denote.Plain.{uint-makes}
 use denote.Builtin.{u8, u64, usize}
 use denote.Ref.{RefT}
 use denote.Slice.{sliceTy, sliceVal, MutSlice, ShrSlice, Room, finally, slice-vals, mut-slice-tells, shr-slice-tells}
-use denote.Steps.{only, owned, peeks, heard, nothing}
+use denote.Steps.{owned, peeks, heard, nothing}
 use denote.Struct.Laws as LL
 use denote.Triple.Entry.{onEntry}
 use denote.Triple.Spec.{Meets, tripleOf}
@@ -37,7 +37,7 @@ use denote.Triple.Statement.{Contract, Triple}
 use denote.Triple.Call.{calls-at}
 use denote.Triple.Clauses.{ensured, lasts}
 use denote.Triple.Table.{entered, cited}
-use denote.Triple.Walked.{says, needs, Stays, gave-slice, stay-dropped, goes-dropped, walkOf, goes-gave-slice, Walks, ends-at, walked, walk-meets}
+use denote.Triple.Walked.{says, Stays, gave-slice, stay-dropped, goes-dropped, walkOf, goes-gave-slice, Walks, ends-at, walked, walk-meets}
 use denote.Exit.{yes}
 use denote.Signature.{plain, shrSliceOf}
 use Rattle.postings.specs.declared.Posting.{Posting}

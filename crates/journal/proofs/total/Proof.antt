@@ -1,7 +1,7 @@
 -- `journal::total` meets its contract: a walk of its MIR, by hand, without branch: the slice is given to `scan`, which leaves the list as it is, and `total_of` decides.
 -- Of the locals' types that are structs nothing is used, so the walk is over any. Assumes nothing.
 use mathlib.Core.Path.{_≡_, refl}
-use Prim.Native.Nat.{ℕ, _<_, _-_, _^_}
+use Prim.Native.Nat.{ℕ, _<_, _^_}
 use mathlib.Core.List.{[], _∷_, List}
 use lib.Dec.{T as Holds}
 use lib.ListN.{length}
