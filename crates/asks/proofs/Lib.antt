@@ -2,3 +2,4 @@ pub mod Behind
 pub mod Parts
 pub mod Counted
 pub mod ExtentEnds
+pub mod RecordEnds

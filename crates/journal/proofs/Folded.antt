@@ -1,7 +1,7 @@
 -- The single calls, folded over any list of calls, are the calls of the definitions: each is one call carried out, by unfolding, on what the one
 -- before it left. So from the empty book on the promise about every list of calls holds of them too.
 -- Assumes nothing.
-use mathlib.Core.Path.{refl, sym, ap, subst}
+use mathlib.Core.Path.{_≡_, refl, sym, ap, subst}
 use mathlib.Core.List.{List, [], _∷_}
 use Prim.Native.Nat.{ℕ}
 use Rattle.sheet.specs.declared.Sheet.{Sheet}

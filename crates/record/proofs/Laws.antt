@@ -54,12 +54,12 @@ module _ (text : List ℕ) (start units : ℕ) (monthly : List GrossKwh) where
   start-good e = simp e
 
   -- what a reading that ends well tells
-  record Ended (place : ℕ) : Type 0 where
-    begun : badStart text start ≡ false
-    good : readLines (drop start text) (ones units) .refusal ≡ 0
-    place-is : place ≡ start + readLines (drop start text) (ones units) .at
+  pub record Ended (place : ℕ) : Type 0 where
+    pub begun : badStart text start ≡ false
+    pub good : readLines (drop start text) (ones units) .refusal ≡ 0
+    pub place-is : place ≡ start + readLines (drop start text) (ones units) .at
 
-  ended : (place : ℕ) → readRecord text start units monthly .answer ≡ Read place → Ended place
+  pub ended : (place : ℕ) → readRecord text start units monthly .answer ≡ Read place → Ended place
   ended place = by (badStart text start) refl
     where
       s : Reading

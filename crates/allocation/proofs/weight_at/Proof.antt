@@ -1,6 +1,6 @@
 -- The code's tests are the definition's.
 -- Assumes nothing.
-use mathlib.Core.Path.{refl, sym, _∙_}
+use mathlib.Core.Path.{_≡_, refl, sym, _∙_}
 use mathlib.Core.Bool.{Bool, true, false, cond}
 use Prim.Native.Nat.{ℕ}
 use lib.Dec.{eqb}

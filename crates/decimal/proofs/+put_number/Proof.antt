@@ -1,6 +1,6 @@
 -- The proof of a function that calls itself; the measure is the number. The digits of its hundreds come from that call, then the last two.
 -- Assumes nothing.
-use Prim.Native.Nat.{ℕ, _+_, _/_, _%_}
+use Prim.Native.Nat.{_<_, ℕ, _+_, _/_, _%_}
 use mathlib.Core.Path.{ap, sym, _∙_}
 use native.Mathlib.Omega.{arith}
 use borrow.Author.Needs.{needs}
