@@ -2,14 +2,13 @@
 // by what the sheet and the book have of it, and the numbers of answers. The crate `ledger` says what is right.
 ghost use mathlib.Core.Path.{_≡_};
 ghost use mathlib.Core.Bool.{true, false, _&&_, _||_};
-ghost use lib.Dec.{leb, ltb, eqb};
+ghost use lib.Dec.{ltb, eqb};
 ghost use Prim.Native.Nat.{ℕ, _+_, _≤_, _<_, min};
 ghost use Rattle.lines.specs.declared.ReadAnswer.the-variants.{Read};
 ghost use Rattle.settlement.specs.Ranges.{HourDue};
 ghost use Rattle.ledger.specs.Calls.{verdict, badHour, unknownUnits, shortOf, bookFits};
 ghost use Rattle.ledger.specs.Numbers.{refusalNumber, refusalLine, numberOf, lineOf, postedOf};
 ghost use Rattle.ledger.specs.Requests.{partOf, askedAt};
-ghost use Rattle.ledger.specs.Total.{noTotal, totalDecided};
 ghost use Rattle.decisions.specs.Calls.{commitmentCall, recordCall, decoded, callStart};
 ghost use Rattle.decisions.specs.Changes.{hourIndex, entryIndex, takeChange, releaseChange, moveChange, changeOf, changeTests};
 ghost use Rattle.decisions.specs.Hours.{hourRefused, hourChanged, voidDecided, standingRow, recordDecided};
@@ -17,10 +16,8 @@ use energy::HubKwh;
 use ledger::Answer;
 use ledger::Asked;
 use ledger::Refusal;
-use ledger::TotalAnswer;
 use ledger::Verdict;
 use lines::ReadAnswer;
-use postings::Scanned;
 use record::Record;
 use record::RecordRead;
 use settlement::HourResult;
@@ -563,24 +560,6 @@ pub fn posted_of(answer: Answer) -> u64
     }
 }
 
-fn no_total(refusal: Refusal) -> TotalAnswer
-    ensures { λ r. ⌜ r ≡ noTotal refusal ⌝ }
-{
-    TotalAnswer {
-        verdict: Verdict::Refused(refusal),
-        sum: 0,
-    }
-}
-
-fn item_known(item: u64) -> bool
-    ensures { λ r. ⌜ r ≡ (leb 1 item && leb item 5) ⌝ }
-{
-    if item < 1 {
-        return false;
-    }
-    item <= 5
-}
-
 // The rest of 12: the book's ranges, the count's, and the postings'.
 pub fn book_fits(sheet: Sheet, book: Book, count: u64, places: usize, posted: bool) -> bool
     ensures { λ r. ⌜ r ≡ bookFits sheet book count places posted ⌝ }
@@ -592,36 +571,4 @@ pub fn book_fits(sheet: Sheet, book: Book, count: u64, places: usize, posted: bo
         return false;
     }
     posted
-}
-
-// What a total call answers, from what was seen of the postings up to the count.
-pub fn total_of(
-    sheet: Sheet,
-    book: Book,
-    unit: u64,
-    item: u64,
-    count: u64,
-    places: usize,
-    seen: Scanned,
-) -> TotalAnswer
-    ensures { λ r. ⌜ r ≡ totalDecided sheet book unit item count places (seen .good) (seen .sum) ⌝ }
-{
-    let good = seen.good;
-    let sum = seen.sum;
-    if !sheet::sheet_holds(sheet) {
-        return no_total(Refusal::SheetRange);
-    }
-    if !book_fits(sheet, book, count, places, good) {
-        return no_total(Refusal::BookRange);
-    }
-    if !units::has_unit(sheet.units, unit) {
-        return no_total(Refusal::UnitUnknown);
-    }
-    if !item_known(item) {
-        return no_total(Refusal::UnitUnknown);
-    }
-    TotalAnswer {
-        verdict: Verdict::Accepted,
-        sum: sum,
-    }
 }

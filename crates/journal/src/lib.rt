@@ -173,7 +173,7 @@ pub fn total(
 {
     let places = list.len();
     let seen = scan(list, count, unit, item);
-    decisions::total_of(sheet, book, unit, item, count, places, seen)
+    single::total_of(sheet, book, unit, item, count, places, seen)
 }
 
 // The calls from the next one on, as many as the rows have room for, and their postings appended.

@@ -1,9 +1,11 @@
 // Calls one at a time, over the engine: what a single call comes to. Its postings are kept in rows until the journal's functions, in a crate above, append them.
 ghost use mathlib.Core.Path.{_≡_};
-ghost use mathlib.Core.Bool.{true};
+ghost use mathlib.Core.Bool.{true, _&&_};
+ghost use lib.Dec.{leb};
 ghost use Rattle.sheet.specs.Ranges.{sheetHolds};
 ghost use Rattle.ledger.specs.Ledger.{take as takeCall, release as releaseCall, move as moveCall, settle as settleCall, restate as restateCall, void as voidCall};
 ghost use Rattle.ledger.specs.Calls.{bookFits};
+ghost use Rattle.ledger.specs.Total.{noTotal, totalDecided};
 ghost use Rattle.ledger.specs.Requests.{callFor};
 ghost use Rattle.decisions.specs.Calls.{callOf};
 ghost use Rattle.single.specs.Single.{noRows, refusedCall, nineFirst, twelveOr9, entriesOf, firstAt, checkedBy, callOutcome, Decides};
@@ -15,7 +17,10 @@ use ledger::Answer;
 use ledger::Asked;
 use ledger::Outcome;
 use ledger::Refusal;
+use ledger::TotalAnswer;
+use ledger::Verdict;
 use postings::Posting;
+use postings::Scanned;
 use sheet::Sheet;
 use state::Book;
 
@@ -314,4 +319,54 @@ pub fn call(
     ensures { λ r. ⌜ Decides sheet book count places (callFor (now (text .entry)) asked) r ⌝ }
 {
     decide(sheet, book, text, decisions::decode(asked), count, places)
+}
+
+fn no_total(refusal: Refusal) -> TotalAnswer
+    ensures { λ r. ⌜ r ≡ noTotal refusal ⌝ }
+{
+    TotalAnswer {
+        verdict: Verdict::Refused(refusal),
+        sum: 0,
+    }
+}
+
+fn item_known(item: u64) -> bool
+    ensures { λ r. ⌜ r ≡ (leb 1 item && leb item 5) ⌝ }
+{
+    if item < 1 {
+        return false;
+    }
+    item <= 5
+}
+
+// What a total call answers, from what was seen of the postings up to the count.
+pub fn total_of(
+    sheet: Sheet,
+    book: Book,
+    unit: u64,
+    item: u64,
+    count: u64,
+    places: usize,
+    seen: Scanned,
+) -> TotalAnswer
+    ensures { λ r. ⌜ r ≡ totalDecided sheet book unit item count places (seen .good) (seen .sum) ⌝ }
+{
+    let good = seen.good;
+    let sum = seen.sum;
+    if !sheet::sheet_holds(sheet) {
+        return no_total(Refusal::SheetRange);
+    }
+    if !decisions::book_fits(sheet, book, count, places, good) {
+        return no_total(Refusal::BookRange);
+    }
+    if !units::has_unit(sheet.units, unit) {
+        return no_total(Refusal::UnitUnknown);
+    }
+    if !item_known(item) {
+        return no_total(Refusal::UnitUnknown);
+    }
+    TotalAnswer {
+        verdict: Verdict::Accepted,
+        sum: sum,
+    }
 }

@@ -62,10 +62,10 @@ use Rattle.journal.proofs.scan as scan
 use Rattle.journal.proofs.scan.Symbol as scan-def
 use Rattle.journal.proofs.scan.Symbol.{name as #journal·scan}
 use Rattle.journal.proofs.scan.Met as scan-thm
-use Rattle.decisions.proofs.total_of as of
-use Rattle.decisions.proofs.total_of.Symbol as of-def
-use Rattle.decisions.proofs.total_of.Symbol.{name as #decisions·total-of}
-use Rattle.decisions.proofs.total_of.Met as of-thm
+use Rattle.single.proofs.total_of as of
+use Rattle.single.proofs.total_of.Symbol as of-def
+use Rattle.single.proofs.total_of.Symbol.{name as #single·total-of}
+use Rattle.single.proofs.total_of.Met as of-thm
 use Rattle.journal.proofs.total.Key.{name as #journal·total}
 use Rattle.journal.proofs.total as this
 use Rattle.journal.proofs.total.Statement as stated
@@ -164,7 +164,7 @@ module _ {M : Type 1} (𝓤 : URA M) (H : Heap 𝓤) (A : Atoms 𝓤) (W : Given
   total-has : (v : Val) → Is U.the-row End (v ∷ []) → Holds (hasTy tyU v) × WT v
   total-has v i = here-totalanswer v (typed-totalanswer 𝓤 H A W End v i)
 
-  module _ (C₀ : Calls 𝓤 H) (Λ : Loops 𝓤 H) (fm : FmC 𝓤 H (W .laws) C₀) (known-scan : Triple 𝓤 (C₀ #journal·scan) (Scan 𝓤 H A mem run)) (known-of : Triple 𝓤 (C₀ #decisions·total-of) (Of 𝓤 H A mem run)) where
+  module _ (C₀ : Calls 𝓤 H) (Λ : Loops 𝓤 H) (fm : FmC 𝓤 H (W .laws) C₀) (known-scan : Triple 𝓤 (C₀ #journal·scan) (Scan 𝓤 H A mem run)) (known-of : Triple 𝓤 (C₀ #single·total-of) (Of 𝓤 H A mem run)) where
     module _ (tU tZ tB tC : Ty) (l₀ l₁ l₂ l₃ l₄ l₅ l₆ l₇ l₈ l₉ l₁₀ : ℕ) where
       abbrev word : Ty
       word = tyInt w64
@@ -214,13 +214,13 @@ module _ {M : Type 1} (𝓤 : URA M) (H : Heap 𝓤) (A : Atoms 𝓤) (W : Given
         pass1 ! (init ! 18 refl (tt, (tt, (record { fits = list-room .0 }, tt)))) $ pass1 ! (init ! 16 refl (tt, record { fits = count-fits })) $ pass1 ! (init ! 14 refl (typed-sheet 𝓤 H A W sheet sheet-val sheet-is)) $ pass1 ! (init ! 12 refl (typed-book 𝓤 H A W book book-val book-is)) $ pass1 ! (init ! 10 refl (tt, record { fits = which-fits })) $ pass1 ! (init ! 8 refl (tt, record { fits = item-fits })) $ pass0 ! $ from-body tyU tyZ tyB tyC l₀ l₁ l₂ l₃ l₄ l₅ l₆ l₇ l₈ l₉ l₁₀ scanned-has total-has)))))))))))
 
 module _ {M : Type 1} (𝓤 : URA M) (H : Heap 𝓤) (A : Atoms 𝓤) (W : Given 𝓤 H A) (mem : Memory → SProp 𝓤) (run : Routine → Fun 𝓤) where
-  this-walks : (C₀ : Calls 𝓤 H) (Λ : Loops 𝓤 H) → FmC 𝓤 H (W .laws) C₀ → Triple 𝓤 (C₀ #journal·scan) (Scan 𝓤 H A mem run) → Triple 𝓤 (C₀ #decisions·total-of) (Of 𝓤 H A mem run) → Walks 𝓤 H A this.ended stayed (WpFn 𝓤 H C₀ Λ code.function) (this.clauses 𝓤 H A mem run)
+  this-walks : (C₀ : Calls 𝓤 H) (Λ : Loops 𝓤 H) → FmC 𝓤 H (W .laws) C₀ → Triple 𝓤 (C₀ #journal·scan) (Scan 𝓤 H A mem run) → Triple 𝓤 (C₀ #single·total-of) (Of 𝓤 H A mem run) → Walks 𝓤 H A this.ended stayed (WpFn 𝓤 H C₀ Λ code.function) (this.clauses 𝓤 H A mem run)
   this-walks C₀ Λ fm known-scan known-of = walked 𝓤 H A this.ended stayed (this.clauses 𝓤 H A mem run) (WpFn 𝓤 H C₀ Λ code.function)
       (λ κs. (slice-vals, (uint-vals w64, ((λ d. Z′.lowered d ∷ []), ((λ d. B′.lowered d ∷ []), (uint-vals w64, (uint-vals w64, tt))))))) (λ κs. (mut-slice-tells (named 0) (κs .0) T.the-row, (uint-tells w64, (Z′.lowers .val-is, (B′.lowers .val-is, (uint-tells w64, (uint-tells w64, tt)))))))
       (λ κs qs bounds a _ are. via 𝓤 _ (fst∗ 𝓤 _ (emp 𝓤)) (walk 𝓤 H A W mem run (κs .0) (qs .0) (a .0 .ptr .0) (a .0 .ptr .1) (a .0 .name) (a .0 .now) (a .1 .0) (a .1 .1 .0) (a .1 .1 .1 .0) (a .1 .1 .1 .1 .0) (a .1 .1 .1 .1 .1 .0)
       (are .0 .0 .1) (are .1 .0 .1) (Z′.lowered (a .1 .1 .0)) (are .1 .1 .0) (B′.lowered (a .1 .1 .1 .0)) (are .1 .1 .1 .0) (are .1 .1 .1 .1 .0 .1) (are .1 .1 .1 .1 .1 .0 .1) C₀ Λ fm known-scan known-of))
 
-this-meets : {M : Type 1} (𝓤 : URA M) (H : Heap 𝓤) (A : Atoms 𝓤) → Given 𝓤 H A → (mem : Memory → SProp 𝓤) (run : Routine → Fun 𝓤) (𝓣 : Tables 𝓤 H) → Triple 𝓤 (𝓣 .C #journal·scan) (Scan 𝓤 H A mem run) → Triple 𝓤 (𝓣 .C #decisions·total-of) (Of 𝓤 H A mem run)
+this-meets : {M : Type 1} (𝓤 : URA M) (H : Heap 𝓤) (A : Atoms 𝓤) → Given 𝓤 H A → (mem : Memory → SProp 𝓤) (run : Routine → Fun 𝓤) (𝓣 : Tables 𝓤 H) → Triple 𝓤 (𝓣 .C #journal·scan) (Scan 𝓤 H A mem run) → Triple 𝓤 (𝓣 .C #single·total-of) (Of 𝓤 H A mem run)
     → Meets 𝓤 H A this.signature (WpFn 𝓤 H (𝓣 .C) (𝓣 .Λ) code.function) (this.spec 𝓤 H A mem run)
 this-meets 𝓤 H A W mem run 𝓣 known-scan known-of =
     walk-meets 𝓤 H A this.ended stayed W (goes-gave-slice 𝓤 H A W 1 0 tt (plain (λ _. T.the-row)), (goes-none 𝓤 H A W 1 (λ _. usize) yes (λ κs x f. refl), (goes-none 𝓤 H A W 1 (λ _. Z.the-row) yes (λ κs x f. refl), (goes-none 𝓤 H A W 1 (λ _. B.the-row) yes (λ κs x f. refl), (goes-none 𝓤 H A W 1 (λ _. usize) yes (λ κs x f. refl), (goes-none 𝓤 H A W 1 (λ _. usize) yes (λ κs x f. refl), tt)))))) (this.clauses 𝓤 H A mem run)
@@ -233,4 +233,4 @@ total-spec 𝓤 H 𝓜 𝓖 𝓡 =
     (tables 𝓤 H 𝓜 𝓡 code.env .C) (tables 𝓤 H 𝓜 𝓡 code.env .Λ) #journal·total code.function (code.unfolded 𝓤 H 𝓜 𝓡)
     (this-meets 𝓤 H (𝓖 .A) (givenOf 𝓤 H 𝓜 𝓖) (𝓜 .mem) (𝓡 .run) (tablesOf 𝓤 H 𝓜 (tables 𝓤 H 𝓜 𝓡 code.env))
     (cited 𝓤 H (Scan 𝓤 H (𝓖 .A) (𝓜 .mem) (𝓡 .run)) 𝓜 𝓡 code.env #journal·scan scan-def.routine code.calls-journal·scan (scan-thm.met 𝓤 H 𝓜 𝓖 𝓡))
-    (cited 𝓤 H (Of 𝓤 H (𝓖 .A) (𝓜 .mem) (𝓡 .run)) 𝓜 𝓡 code.env #decisions·total-of of-def.routine code.calls-decisions·total-of (of-thm.met 𝓤 H 𝓜 𝓖 𝓡)))
+    (cited 𝓤 H (Of 𝓤 H (𝓖 .A) (𝓜 .mem) (𝓡 .run)) 𝓜 𝓡 code.env #single·total-of of-def.routine code.calls-single·total-of (of-thm.met 𝓤 H 𝓜 𝓖 𝓡)))

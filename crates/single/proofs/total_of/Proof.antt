@@ -5,8 +5,8 @@ use borrow.Author.Tests.{not-true, not-false}
 use Rattle.formulas.proofs.Amounts.{back}
 use Rattle.ledger.specs.Total.{totalBy, totalDecided}
 use borrow.Author.Needs.{needs}
-use Rattle.decisions.proofs.total_of.Statement.{statement}
-use Rattle.decisions.proofs.total_of.Tie as tie
+use Rattle.single.proofs.total_of.Statement.{statement}
+use Rattle.single.proofs.total_of.Tie as tie
 
 returns : tie.Need-returns
 unfolding totalDecided totalBy

@@ -1,8 +1,8 @@
 -- Each test is a part of the definition.
 -- Assumes nothing.
 use borrow.Author.Tests.{lt-leb, le-leb}
-use Rattle.decisions.proofs.item_known.Statement.{statement}
-use Rattle.decisions.proofs.item_known.Tie as tie
+use Rattle.single.proofs.item_known.Statement.{statement}
+use Rattle.single.proofs.item_known.Tie as tie
 
 returns : tie.Need-returns
 returns c = simp (lt-leb _ _ (c .if1 .taken))
