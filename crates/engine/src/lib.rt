@@ -1,27 +1,15 @@
 // One engine for every call. A call is carried out over the lent numbers of the book: `carry_out` tests it, stores what it changes, and keeps what it posts
 // in an entry of the rows. A single call and a list of calls both go through it; the functions over the lent journal stand in the crate above.
 ghost use mathlib.Core.Path.{_≡_};
-ghost use mathlib.Core.Bool.{true, false, _&&_};
 ghost use mathlib.Core.List.{List};
-ghost use lib.Dec.{leb, ltb};
-ghost use Prim.Native.Nat.{ℕ, _+_, _-_, _*_, _%_, _≤_, _<_};
-ghost use lib.IntN.{pos, natAbs};
-ghost use lib.ListN.{length, getD};
-ghost use Rattle.units.specs.Units.{memberAt};
-ghost use Rattle.state.specs.Sizes.{hours, places, items, entries};
-ghost use Rattle.state.specs.Book.{pastAmounts, itemOf};
-ghost use Rattle.state.specs.Ranges.{mostAmount, limitOf};
-ghost use Rattle.numbers.specs.Offers.{offerSize, offerIn};
-ghost use Rattle.numbers.specs.Numbers.{hourItems};
+ghost use Prim.Native.Nat.{ℕ, _+_, _-_, _*_};
+ghost use Rattle.state.specs.Sizes.{places};
 ghost use Rattle.decisions.specs.Calls.{recordOf, callOf};
-ghost use Rattle.engine.specs.Table.{table, Long, Ready, Carried};
+ghost use Rattle.engine.specs.Table.{table, Ready, Carried};
 ghost use Rattle.engine.specs.Stored.{Stored, StoreReady};
 use decisions::Call;
-use decisions::CommitmentChange;
 use decisions::HourChange;
-use energy::HubKwh;
 use ledger::Answer;
-use ledger::Verdict;
 use settlement::DayTerms;
 
 // What a call carried out answers: the answer and the text place, and the hour of what it posts.
