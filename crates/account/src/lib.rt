@@ -1,5 +1,6 @@
 // The statement of a day's text: the sheet is read, then the list of the day's calls, which is carried out over a journal of 2,000 places; printed are the
 // settled hours, or the first refusal.
+#![tactic(auto)]
 ghost use Rattle.std.specs.Prelude.{◌≡◌, ◌/◌, ◌≤◌, length};
 ghost use Rattle.decimal.specs.Output.{output, written, filled};
 ghost use Rattle.listing.specs.Listing.{most_bytes};
@@ -13,7 +14,7 @@ use sheet::Sheet;
 use state::Book;
 
 // How a day ends: with a refusal's number, or 0; and the book after its calls.
-#[derive(Drop)]
+#[derive(Clone, Copy)]
 pub struct Day {
     pub refusal: u64,
     pub book: Book,

@@ -1,4 +1,5 @@
 // The plant's net hub energy allocated to its units: ceilings, and the fill by rising price.
+#![tactic(auto)]
 ghost use Rattle.std.specs.Prelude.{◌≡◌, true, cond, ℕ, ◌+◌, ◌≤◌, ◌<◌, eqb, ltb, length, get_or};
 ghost use Rattle.finite.specs.Finite.{sum, tabulate};
 ghost use Rattle.energy.specs.Energy.{hub_of};
@@ -14,7 +15,7 @@ use energy::{GrossKwh, HubGrains, HubKwh, NetKwh};
 use offer::{Block, Offer};
 
 // A unit's place, or none.
-#[derive(Drop)]
+#[derive(Clone, Copy)]
 pub enum Pick {
     Nothing,
     At(usize),
@@ -22,7 +23,7 @@ pub enum Pick {
 
 // What an hour's allocation rests on: places 0 to 7 stand for units 1 to 8, and bit k of `units` says whether the plant has the
 // unit at place k. Values at the other places are not looked at.
-#[derive(Drop)]
+#[derive(Clone, Copy)]
 pub struct Plant {
     pub loss: u64,
     pub units: u64,

@@ -1,4 +1,5 @@
 // The lines of a list of calls, as `replay` reads them behind the sheet: what a line asks, and where the next one stands.
+#![tactic(auto)]
 ghost use Rattle.std.specs.Prelude.{◌≡◌, ◌+◌, ◌<◌, ◌≤◌, length};
 ghost use Rattle.asks.specs.Asks.{kind_of, numbers_of, row_of, no_asked, not_asked, kwh_of, asked_of, total_of, next_of, asking_of, asking_at};
 ghost use Rattle.asks.specs.Extent.{extent_of, line_end, line_ends};
@@ -9,7 +10,7 @@ use text::Row;
 // What a line asks. Kinds 1 to 7 are take, release, move, settle, restate, void and total; a line of kind 0 is no call, and `refusal`
 // says why: 4 no LF, 1 no `=` or another key, 2 a malformed value. The call of a total is one that is always refused; the unit and the
 // item of another call are 0. The next call's line begins at `next`.
-#[derive(Drop)]
+#[derive(Clone, Copy)]
 pub struct Asking {
     pub call: Asked,
     pub unit: u64,
@@ -21,7 +22,7 @@ pub struct Asking {
 
 // The calls of a text: how many there are before its end or before the first line that is no call; of that line the refusal, 0 where
 // there is none, and its number, counted from 1 in the whole text.
-#[derive(Drop)]
+#[derive(Clone, Copy)]
 pub struct Extent {
     pub calls: usize,
     pub refusal: u64,

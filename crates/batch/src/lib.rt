@@ -1,4 +1,5 @@
 // A batch of calls of a list: carried out one after the other on the book's numbers, with what they post in rows.
+#![tactic(auto)]
 ghost use Rattle.std.specs.Prelude.{◌≡◌, ◌&&◌, ltb};
 ghost use Rattle.engine.specs.Table.{table};
 ghost use Rattle.batch.specs.Run.{turns_of, replied};
@@ -8,14 +9,14 @@ use state::Book;
 use terms::DayTerms;
 
 // What a list of calls leaves.
-#[derive(Drop)]
+#[derive(Clone, Copy)]
 pub struct Ran {
     pub book: Book,
     pub count: u64,
 }
 
 // What a batch of calls comes to: how many calls, the count after them, and how many entries they post.
-#[derive(Drop)]
+#[derive(Clone, Copy)]
 pub struct Batch {
     pub turns: usize,
     pub count: u64,

@@ -1,4 +1,5 @@
 // Prints, for each file that the arguments name, its name on a line and then what `replay` prints for its bytes.
+#![tactic(auto)]
 use libc::STDOUT_FILENO;
 
 fn file_of(i: usize) {

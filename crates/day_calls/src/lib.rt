@@ -1,4 +1,5 @@
 // A day's text behind its sheet, read into a list of calls in numbers and an ending: takes and hour records in any mixture.
+#![tactic(auto)]
 ghost use Rattle.std.specs.Prelude.{◌≡◌, true, ◌&&◌, ltb, ◌/◌, ◌≤◌, ◌<◌, length};
 ghost use Rattle.ledger.specs.Requests.{call_numbers, none_asked};
 ghost use Rattle.day_calls.specs.DayCalls.{take_row, take_of, settle_asked, next_at, end_step, call_step, step_at, line_bytes, stored_at, Lists};
@@ -7,7 +8,7 @@ use ledger::Asked;
 use text::{Line, Row};
 
 // What comes at a place of the text: its end; a line that is refused with a number; a take, with the place after its line; the settle of a record.
-#[derive(Drop)]
+#[derive(Clone, Copy)]
 pub enum Next {
     Ends,
     Bad(u64),
@@ -16,7 +17,7 @@ pub enum Next {
 }
 
 // A call, and the place behind it; or, where there is no more, the ending of the list.
-#[derive(Drop)]
+#[derive(Clone, Copy)]
 pub struct Step {
     pub more: bool,
     pub asked: Asked,
@@ -25,7 +26,7 @@ pub struct Step {
 }
 
 // How many calls were stored, and the ending: 0 at the text's end, or the number of the line that is no call. `all` says that no call is left.
-#[derive(Drop)]
+#[derive(Clone, Copy)]
 pub struct Listed {
     pub calls: usize,
     pub ending: u64,

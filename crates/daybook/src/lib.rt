@@ -1,5 +1,6 @@
 // A list of calls carried out and printed: from the bytes of calls.txt to the bytes that `replay` writes. Each call is carried out as it comes,
 // over a list of 2,000 places, and printed with its result; behind the last stand the commitments, the settled hours and the totals.
+#![tactic(auto)]
 ghost use Rattle.std.specs.Prelude.{◌≡◌, ◌≤◌, length};
 ghost use Rattle.decimal.specs.Output.{output, written};
 ghost use Rattle.daybook.specs.Turns.{total_asked, asked_next, listed_after, first_tables, turn_text, own_list};
@@ -15,7 +16,7 @@ use state::Book;
 
 // How the run stands: the count and the book; the place of the next line in the text; how many totals are listed behind the last line, up to
 // 40; and how many bytes are printed.
-#[derive(Drop)]
+#[derive(Clone, Copy)]
 pub struct Stand {
     pub count: u64,
     pub book: Book,

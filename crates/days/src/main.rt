@@ -1,6 +1,7 @@
 // Runs the readers and the statement over the files that the arguments name. First it says of each file what was read and what was refused: the
 // sheet from place 0, then a record at each line behind it that begins `hour=`, at the text's end, and one past it. Then it prints of each file
 // its name and its statement.
+#![tactic(auto)]
 use energy::GrossKwh;
 use libc::STDOUT_FILENO;
 use lines::{ReadAnswer, TextRefusal};

@@ -1,5 +1,6 @@
 // What each call is decided to be, by value: a call decoded from its numbers, a change of commitments tested, an hour settled, restated or voided
 // by what the sheet and the book have of it, and the numbers of answers. The crate `ledger` says what is right.
+#![tactic(auto)]
 ghost use Rattle.std.specs.Prelude.{◌≡◌, true, ◌&&◌, ◌||◌, ltb, eqb, ℕ, ◌+◌, ◌<◌, min};
 ghost use Rattle.lines.specs.declared.ReadAnswer.TheVariants.{Read};
 ghost use Rattle.settlement.specs.Ranges.{HourDue};
@@ -21,7 +22,7 @@ use state::Book;
 use terms::HourSheet;
 
 // The calls that change commitments.
-#[derive(Drop)]
+#[derive(Clone, Copy)]
 pub enum CommitmentKind {
     Take,
     Release,
@@ -29,7 +30,7 @@ pub enum CommitmentKind {
 }
 
 // A take, release or move of an hour. A move goes from `unit` to `to`; the others do not look at `to`.
-#[derive(Drop)]
+#[derive(Clone, Copy)]
 pub struct CommitmentCall {
     pub kind: CommitmentKind,
     pub hour: u64,
@@ -39,7 +40,7 @@ pub struct CommitmentCall {
 }
 
 // A settle, or a restate (`again`): the part of the lent text that it is given, from `begin` to before `end`, and where its record starts in that part.
-#[derive(Drop)]
+#[derive(Clone, Copy)]
 pub struct RecordCall {
     pub again: bool,
     pub begin: u64,
@@ -48,7 +49,7 @@ pub struct RecordCall {
 }
 
 // A call. A void has its hour.
-#[derive(Drop)]
+#[derive(Clone, Copy)]
 pub enum Call {
     Commitment(CommitmentCall),
     Record(RecordCall),
@@ -57,7 +58,7 @@ pub enum Call {
 
 // A take, release or move: the unit `from` gives `out` and the unit `to` gets `into`. In a take and in a release both are the same unit, and one
 // of the two amounts is 0. `same` says that it is a move from a unit to itself.
-#[derive(Drop)]
+#[derive(Clone, Copy)]
 pub struct CommitmentChange {
     pub hour: u64,
     pub from: u64,
@@ -69,7 +70,7 @@ pub struct CommitmentChange {
 
 // What a settle, restate or void comes to: the answer and the text place, and, where it is accepted, the hour, and its mark, energies and amounts
 // after it.
-#[derive(Drop)]
+#[derive(Clone, Copy)]
 pub struct HourChange {
     pub accepted: bool,
     pub answer: Answer,

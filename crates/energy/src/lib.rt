@@ -1,22 +1,23 @@
 // The plant's energies and what is paid for them. Gross, net-at-gate and hub energies are types of their own: each is added, subtracted and
 // compared with its own kind only, and the conversions from one kind to another stand here alone.
+#![tactic(auto)]
 ghost use Rattle.std.specs.Prelude.{◌≡◌, ◌+◌, ◌*◌, ◌-◌, ◌/◌, ◌^◌, ◌≤◌, ◌<◌, min, max, ltb, eqb};
 ghost use Rattle.energy.specs.Energy.{net_of, hub_of, gate_of, grains_of, pay_of};
 
 // Gross energy in kWh.
-#[derive(Drop)]
+#[derive(Clone, Copy)]
 pub struct GrossKwh(pub u64);
 
 // Net energy at the gate in kWh.
-#[derive(Drop)]
+#[derive(Clone, Copy)]
 pub struct NetKwh(pub u64);
 
 // Hub energy in whole kWh, as in offers and commitments.
-#[derive(Drop)]
+#[derive(Clone, Copy)]
 pub struct HubKwh(pub u64);
 
 // Hub energy in grains of 0.1 Wh.
-#[derive(Drop)]
+#[derive(Clone, Copy)]
 pub struct HubGrains(pub u64);
 
 // Net of gross: less the unit's own use, in ten-thousandths.

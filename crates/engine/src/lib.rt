@@ -1,5 +1,6 @@
 // One engine for every call. A call is carried out over the lent numbers of the book: `carry_out` tests it, stores what it changes, and keeps what it posts
 // in an entry of the rows. A single call and a list of calls both go through it; the functions over the lent journal stand in the crate above.
+#![tactic(auto)]
 ghost use Rattle.std.specs.Prelude.{◌≡◌, List, ℕ};
 ghost use Rattle.decisions.specs.Calls.{record_of, call_of};
 ghost use Rattle.engine.specs.Table.{table, Ready, Carried};
@@ -10,7 +11,7 @@ use ledger::Answer;
 use terms::DayTerms;
 
 // What a call carried out answers: the answer and the text place, and the hour of what it posts.
-#[derive(Drop)]
+#[derive(Clone, Copy)]
 pub struct Done {
     pub answer: Answer,
     pub place: u64,

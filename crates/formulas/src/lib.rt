@@ -1,4 +1,5 @@
 // The arithmetic of a unit's items but the test, in Rial: the season, the ceiling of a declaration, each item's magnitude, and its sign.
+#![tactic(auto)]
 ghost use Rattle.std.specs.Prelude.{◌≡◌, ◌+◌, ◌^◌, ◌≤◌, ◌<◌};
 ghost use Rattle.formulas.specs.Items.{first_kind, kinds, deviation_of, in_order, in_season, declaration_ceiling, energy_pay, availability, refund_kwh, refund as the_refund, drawn_pay, paid as the_paid, owed as the_owed};
 
@@ -8,7 +9,7 @@ use energy::{GrossKwh, NetKwh};
 pub const KINDS: usize = 7;
 
 // A unit's deviation by kind, from kind 2 on, in net kWh at the gate.
-#[derive(Drop)]
+#[derive(Clone, Copy)]
 pub struct Deviations {
     pub kwh: [NetKwh; KINDS],
 }

@@ -1,12 +1,13 @@
 // The calls on the book and the journal: what each is refused for, and what an accepted one changes and posts; and the plain ledger, which says the
 // same with no book. Definitions and laws; the code that carries the calls out stands in the crates above.
+#![tactic(auto)]
 use lines::{ReadAnswer, TextRefusal};
 use postings::Plan;
 use record::Record;
 use state::Book;
 
 // Why a call is refused.
-#[derive(Drop)]
+#[derive(Clone, Copy)]
 pub enum Refusal {
     // 1 to 4, with the line
     Text(TextRefusal),
@@ -43,14 +44,14 @@ pub enum Refusal {
 }
 
 // Whether a call is accepted.
-#[derive(Drop)]
+#[derive(Clone, Copy)]
 pub enum Verdict {
     Accepted,
     Refused(Refusal),
 }
 
 // What a call answers; `Posted` has the number of postings appended.
-#[derive(Drop)]
+#[derive(Clone, Copy)]
 pub enum Answer {
     Accepted,
     Posted(u64),
@@ -59,7 +60,7 @@ pub enum Answer {
 
 // A call: kinds 1 to 6 are take, release, move, settle, restate and void. Settle and restate carry what was read of the record's text from
 // `start` on.
-#[derive(Drop)]
+#[derive(Clone, Copy)]
 pub struct Request {
     pub kind: u64,
     pub hour: u64,
@@ -73,7 +74,7 @@ pub struct Request {
 
 // A call in numbers, as a list of calls has it: the kind as above, where every other number asks for a void of hour 0, which is refused; and the
 // part of the lent text that the call is given, from `begin` to before `end`; a record starts at `start` in that part.
-#[derive(Drop)]
+#[derive(Clone, Copy)]
 pub struct Asked {
     pub kind: u64,
     pub hour: u64,
@@ -86,7 +87,7 @@ pub struct Asked {
 }
 
 // What a call comes to: n postings of the plan, stored from place `at` on; the answer and the text place; the count and the book after it.
-#[derive(Drop)]
+#[derive(Clone, Copy)]
 pub struct Decision {
     pub plan: Plan,
     pub at: usize,
@@ -98,7 +99,7 @@ pub struct Decision {
 }
 
 // What a call answers and leaves, without what it posted.
-#[derive(Drop)]
+#[derive(Clone, Copy)]
 pub struct Outcome {
     pub answer: Answer,
     pub place: u64,
@@ -107,7 +108,7 @@ pub struct Outcome {
 }
 
 // What a total call answers: the verdict, and the total, 0 where it is refused.
-#[derive(Drop)]
+#[derive(Clone, Copy)]
 pub struct TotalAnswer {
     pub verdict: Verdict,
     pub sum: i64,

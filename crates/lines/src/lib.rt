@@ -1,5 +1,6 @@
 // A text read line by line. The reader's state is a cursor by value; the lines read are kept in a lent list of numbers,
 // 25 cells for each line: first how many numbers the line has, then its 24 numbers.
+#![tactic(auto)]
 ghost use Rattle.std.specs.Prelude.{◌≡◌, ◌+◌, ◌^◌, ◌≤◌, ◌<◌, length, get_or};
 ghost use Rattle.values.specs.Values.{value_of};
 ghost use Rattle.lines.specs.Lines.{Reading, read_line};
@@ -9,7 +10,7 @@ ghost use Rattle.lines.specs.Refusals.{text_number, text_line, text_refusal, bad
 use text::Row;
 
 // Why a text is refused, with the line: document 01's numbers 1 to 4.
-#[derive(Drop)]
+#[derive(Clone, Copy)]
 pub enum TextRefusal {
     // not key=value, or not the key due
     NotDue(u64),
@@ -22,14 +23,14 @@ pub enum TextRefusal {
 }
 
 // What a reader answers: the place after what was read, or why the text is refused.
-#[derive(Drop)]
+#[derive(Clone, Copy)]
 pub enum ReadAnswer {
     Read(u64),
     Refused(TextRefusal),
 }
 
 // How far a text is read: the refusal's number or 0, the place of the line due, and how many lines were read before it.
-#[derive(Drop)]
+#[derive(Clone, Copy)]
 pub struct Cursor {
     pub refusal: u64,
     pub at: usize,

@@ -1,4 +1,5 @@
 // The lines of the statement, written into a lent buffer: settled hours, or a refusal. The settled hours have a lead in front of each line, for `replay`.
+#![tactic(auto)]
 ghost use Rattle.std.specs.Prelude.{◌≡◌, ◌+◌, ◌*◌, ◌≤◌, ◌<◌, length};
 ghost use Rattle.state.specs.Sizes.{hours, places, items};
 ghost use Rattle.decimal.specs.Output.{output, written};

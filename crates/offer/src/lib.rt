@@ -1,4 +1,5 @@
 // A unit's offer for an hour: its test, and the modified offer's prices and sums.
+#![tactic(auto)]
 ghost use Rattle.std.specs.Prelude.{◌≡◌, true, ◌-◌, ◌≤◌, ◌<◌};
 ghost use Rattle.finite.specs.Finite.{every};
 ghost use Rattle.offer.specs.Offer.{no_offer, steps_allowed, in_range, in_order, step_in_range, step_in_order, offer_holds, last_quantity};
@@ -7,7 +8,7 @@ ghost use Rattle.offer.specs.Modified.{IsBlock, cost_between};
 use energy::{HubGrains, HubKwh};
 
 // Up to ten steps: a cumulative quantity and a price in Rial/MWh. Past the number of steps nothing is looked at.
-#[derive(Drop)]
+#[derive(Clone, Copy)]
 pub struct Offer {
     pub steps: usize,
     pub quantity: [HubKwh; 10],
@@ -15,7 +16,7 @@ pub struct Offer {
 }
 
 // Grains that follow one another at one price, up to the grain `end`, which is no longer one of them.
-#[derive(Drop)]
+#[derive(Clone, Copy)]
 pub struct Block {
     pub price: u64,
     pub end: HubGrains,

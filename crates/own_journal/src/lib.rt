@@ -1,4 +1,5 @@
 // A journal list of 2,000 places held by value, and lent to `journal` for a list of calls or a total.
+#![tactic(auto)]
 ghost use Rattle.std.specs.Prelude.{◌≡◌, length};
 ghost use Rattle.ledger.specs.Total.{total_on};
 ghost use Rattle.batch.specs.Run.{turns_of, ran_all};
@@ -12,7 +13,7 @@ use sheet::Sheet;
 use state::Book;
 
 // What a list of calls leaves: the list, the book and the count.
-#[derive(Drop)]
+#[derive(Clone, Copy)]
 pub struct Carried {
     pub ran: Ran,
     pub list: [Posting; 2000],

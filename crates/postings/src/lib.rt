@@ -1,4 +1,5 @@
 // Postings: the count and the scan of those up to it, and the postings of a batch of calls.
+#![tactic(auto)]
 ghost use Rattle.std.specs.Prelude.{◌≡◌, ◌*◌, ◌≤◌, min, length};
 ghost use Rattle.postings.specs.Journal.{no_posting, count_holds, covered_by, is_of, scanned_with, scanned_none};
 ghost use Rattle.postings.specs.Plan.{plan_rows};
@@ -14,7 +15,7 @@ pub const ENTRY_ITEMS: usize = 40;
 pub const ROWS: usize = 640;
 
 // An amount posted for a unit's item in an hour, in Rial. Hour, unit and item are counted from 1.
-#[derive(Drop)]
+#[derive(Clone, Copy)]
 pub struct Posting {
     pub hour: u64,
     pub unit: u64,
@@ -23,14 +24,14 @@ pub struct Posting {
 }
 
 // Whether the postings passed are within their bound, and what those of a unit and item add up to.
-#[derive(Drop)]
+#[derive(Clone, Copy)]
 pub struct Scanned {
     pub good: bool,
     pub sum: i64,
 }
 
 // The postings of one call in their order, then none.
-#[derive(Drop)]
+#[derive(Clone, Copy)]
 pub struct Plan {
     pub row: [Posting; 40],
 }

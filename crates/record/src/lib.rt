@@ -1,4 +1,5 @@
 // The hour record: its type, the empty one, how a span's kind counts, and the test of the spans' minutes.
+#![tactic(auto)]
 ghost use Rattle.std.specs.Prelude.{◌≡◌, eqb};
 ghost use Rattle.record.specs.Empty.{no_span, no_unit, no_record};
 ghost use Rattle.record.specs.Spans.{counted_kind, minutes_of, minutes_hold};
@@ -6,7 +7,7 @@ ghost use Rattle.record.specs.Spans.{counted_kind, minutes_of, minutes_hold};
 use energy::{GrossKwh, NetKwh};
 
 // Minutes of an hour in one status: its kind, the cause (0 none, 1 environment, 2 frequency control), the announced capability.
-#[derive(Drop)]
+#[derive(Clone, Copy)]
 pub struct Span {
     pub minutes: u64,
     pub kind: u64,
@@ -15,7 +16,7 @@ pub struct Span {
 }
 
 // What an hour record says of a unit. The reading of a unit that is not measured is 0.
-#[derive(Drop)]
+#[derive(Clone, Copy)]
 pub struct UnitRecord {
     pub declared: GrossKwh,
     pub real: NetKwh,
@@ -31,7 +32,7 @@ pub struct UnitRecord {
 }
 
 // One hour of the plant. Place k of `unit` is that of unit k + 1, empty where the unit is outside the plant.
-#[derive(Drop)]
+#[derive(Clone, Copy)]
 pub struct Record {
     pub hour: u64,
     pub net: NetKwh,

@@ -1,4 +1,5 @@
 // The hour record in a text: its reader.
+#![tactic(auto)]
 ghost use Rattle.std.specs.Prelude.{◌≡◌};
 ghost use Rattle.lines.specs.Cells.{line_in};
 ghost use Rattle.record_text.specs.Hour.{record_by, read_record};
@@ -8,7 +9,7 @@ use lines::ReadAnswer;
 use record::Record;
 
 // What a reader answers, and the record, empty where the text is refused.
-#[derive(Drop)]
+#[derive(Clone, Copy)]
 pub struct RecordRead {
     pub answer: ReadAnswer,
     pub read: Record,

@@ -1,4 +1,5 @@
 // Reads calls.txt in the working folder and writes what the calls come to; a file that is not there counts as empty.
+#![tactic(auto)]
 ghost use Rattle.io.specs.Counts.{IsPrefixLen};
 
 use libc::STDOUT_FILENO;

@@ -1,5 +1,6 @@
 // A list of calls: begun with 9 and 12 tested, and carried on a batch at a time. What a batch posts is kept in rows until the journal's functions, in
 // the crate above, append it.
+#![tactic(auto)]
 ghost use Rattle.std.specs.Prelude.{◌≡◌, ◌-◌, ◌≤◌};
 ghost use Rattle.series.specs.Stands.{Due, Goes, StartedAt, ran_of, refused_step, refusal_by, refused_from};
 
@@ -9,7 +10,7 @@ use sheet::Sheet;
 use state::Book;
 
 // A list of calls under way: the numbers of the book and the count after the calls before `next`, and the number of the refusal of every call, 9 or 12, or 0.
-#[derive(Drop)]
+#[derive(Clone, Copy)]
 pub struct Stand {
     pub next: usize,
     pub count: u64,
@@ -21,7 +22,7 @@ pub struct Stand {
 }
 
 // Some calls: where the list stands after them, and the n postings that they come to, from place `at` on.
-#[derive(Drop)]
+#[derive(Clone, Copy)]
 pub struct Step {
     pub row: [Posting; 640],
     pub at: usize,

@@ -1,4 +1,5 @@
 // An hour's settlement: the five items of each unit, the hour's energies and amounts, and the test of a record's proportions.
+#![tactic(auto)]
 ghost use Rattle.std.specs.Prelude.{◌≡◌, true, cond, ℕ, ◌≤◌};
 ghost use Rattle.finite.specs.Finite.{tabulate};
 ghost use Rattle.units.specs.Units.{member_at, is_lowest};
@@ -19,13 +20,13 @@ use terms::{HourSheet, Rates};
 pub const ITEMS: usize = 5;
 
 // A unit's items, in Rial.
-#[derive(Drop)]
+#[derive(Clone, Copy)]
 pub struct Amounts {
     pub item: [i64; ITEMS],
 }
 
 // An hour's energies and amounts: place k is that of unit k + 1, all 0 where the unit is outside the plant.
-#[derive(Drop)]
+#[derive(Clone, Copy)]
 pub struct HourResult {
     pub energy: [HubGrains; 8],
     pub amounts: [Amounts; 8],

@@ -1,4 +1,5 @@
 // The day sheet: its type, the empty one, and the test of its ranges and orders.
+#![tactic(auto)]
 ghost use Rattle.std.specs.Prelude.{◌≡◌};
 ghost use Rattle.offer.specs.Offer.{offer_holds};
 ghost use Rattle.finite.specs.Finite.{every};
@@ -10,7 +11,7 @@ use energy::GrossKwh;
 use offer::Offer;
 
 // What the sheet says of a unit: own use in ten-thousandths, nominal and monthly practical power, the offers of 24 hours.
-#[derive(Drop)]
+#[derive(Clone, Copy)]
 pub struct UnitSheet {
     pub own: u64,
     pub nominal: GrossKwh,
@@ -19,7 +20,7 @@ pub struct UnitSheet {
 }
 
 // One plant's day. Place k of `unit` is that of unit k + 1, which is in the plant where bit k of `units` is 1.
-#[derive(Drop)]
+#[derive(Clone, Copy)]
 pub struct Sheet {
     pub month: u64,
     pub day: u64,

@@ -1,4 +1,5 @@
 // The day sheet in a text: its reader.
+#![tactic(auto)]
 ghost use Rattle.std.specs.Prelude.{◌≡◌, ◌^◌, ◌≤◌, ◌<◌};
 ghost use Rattle.lines.specs.Cells.{line_in};
 ghost use Rattle.sheet_text.specs.Day.{offer_by, unit_by, place_by, sheet_by, read_sheet};
@@ -9,7 +10,7 @@ use offer::Offer;
 use sheet::{Sheet, UnitSheet};
 
 // What a reader answers, and the sheet, empty where the text is refused.
-#[derive(Drop)]
+#[derive(Clone, Copy)]
 pub struct SheetRead {
     pub answer: ReadAnswer,
     pub sheet: Sheet,

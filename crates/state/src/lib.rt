@@ -1,4 +1,5 @@
 // The book: how it is read and written, and what refusal 12 asks of it. Hours and places are counted from 0 here.
+#![tactic(auto)]
 ghost use Rattle.std.specs.Prelude.{◌≡◌, false, ℕ, ◌^◌, ◌<◌, length, get_or};
 ghost use Rattle.finite.specs.Finite.{every};
 ghost use Rattle.units.specs.Units.{member_at};
@@ -13,7 +14,7 @@ use settlement::{Amounts, HourResult};
 use sheet::{Sheet, UnitSheet};
 
 // Hour h and place k, which is that of unit k + 1, stand at 8 * h + k. Marks: 0 open, 1 settled.
-#[derive(Drop)]
+#[derive(Clone, Copy)]
 pub struct Book {
     pub commitment: [HubKwh; 192],
     pub mark: [u64; 24],

@@ -1,5 +1,6 @@
 // Prints the statement of the day in day.txt of the working folder. A file that is absent is read as empty; of one that is too long as much is
 // read as shows that it is.
+#![tactic(auto)]
 ghost use Rattle.io.specs.Counts.{IsPrefixLen};
 
 use libc::STDOUT_FILENO;

@@ -1,4 +1,5 @@
 // What settlements use of the sheet: the terms of a day, and those of an hour.
+#![tactic(auto)]
 ghost use Rattle.std.specs.Prelude.{◌≡◌, ℕ, ◌≤◌};
 ghost use Rattle.finite.specs.Finite.{tabulate};
 ghost use Rattle.sheet.specs.Ranges.{unit_at as sheet_unit};
@@ -10,7 +11,7 @@ use sheet::Sheet;
 
 // What an hour's formulas use of the sheet: whether the day lies in the season, the plant's loss, the base availability rate and the
 // hour's capacity payment factor.
-#[derive(Drop)]
+#[derive(Clone, Copy)]
 pub struct Rates {
     pub season: bool,
     pub loss: u64,
@@ -20,7 +21,7 @@ pub struct Rates {
 
 // What the settlements of a day use of the sheet, but for the offers, by place. It is taken out once for a list of calls, so that the sheet is not
 // handed on.
-#[derive(Drop)]
+#[derive(Clone, Copy)]
 pub struct DayTerms {
     pub season: bool,
     pub loss: u64,
@@ -34,7 +35,7 @@ pub struct DayTerms {
 }
 
 // What an hour's settlement uses of the sheet, by place: each unit's own use, nominal power and offer of the hour.
-#[derive(Drop)]
+#[derive(Clone, Copy)]
 pub struct HourSheet {
     pub rates: Rates,
     pub ceiling: u64,

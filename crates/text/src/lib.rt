@@ -1,24 +1,25 @@
 // One line key=value of a text: its key, the part that is its value, words and decimal numbers; a row says what one kind of line may be.
+#![tactic(auto)]
 ghost use Rattle.std.specs.Prelude.{◌≡◌, ℕ, ◌+◌, ◌*◌, ◌<◌, leb, drop};
 ghost use Rattle.text.specs.declared.Number.TheVariants.{Value, Malformed};
 ghost use Rattle.text.specs.Text.{seek, value_part, word_is, key_is, digits, number_in};
 ghost use Rattle.text.specs.Rows.{number_row, blank_row, word_row, part_bytes};
 
-#[derive(Drop)]
+#[derive(Clone, Copy)]
 pub enum Number {
     Value(u64),
     Malformed,
 }
 
 // One number of a value, and the place of the mark after it or the end.
-#[derive(Drop)]
+#[derive(Clone, Copy)]
 pub struct Part {
     pub number: Number,
     pub end: usize,
 }
 
 // One kind of line. A key or a word ends at its '='.
-#[derive(Drop)]
+#[derive(Clone, Copy)]
 pub struct Row {
     pub key: [u8; 10],
     // what the value must be, where there are no parts
@@ -36,7 +37,7 @@ pub struct Row {
 }
 
 // What stands in a line: its numbers, none where the value is blank or a word. The code is 0, or the refusal.
-#[derive(Drop)]
+#[derive(Clone, Copy)]
 pub struct Line {
     pub code: u64,
     pub count: usize,
@@ -44,7 +45,7 @@ pub struct Line {
 }
 
 // What stands in a line beside its numbers: the code and the count.
-#[derive(Drop)]
+#[derive(Clone, Copy)]
 pub struct Head {
     pub code: u64,
     pub count: usize,
