@@ -1,6 +1,7 @@
 // The plant's energies and what is paid for them. Gross, net-at-gate and hub energies are types of their own: each is added, subtracted and
 // compared with its own kind only, and the conversions from one kind to another stand here alone.
 #![tactic(auto)]
+
 ghost use Rattle.std.specs.Prelude.{◌≡◌, ◌+◌, ◌*◌, ◌-◌, ◌/◌, ◌^◌, ◌≤◌, ◌<◌, min, max, ltb, eqb};
 ghost use Rattle.energy.specs.Energy.{net_of, hub_of, gate_of, grains_of, pay_of};
 

@@ -1,5 +1,6 @@
 // One line key=value of a text: its key, the part that is its value, words and decimal numbers; a row says what one kind of line may be.
 #![tactic(auto)]
+
 ghost use Rattle.std.specs.Prelude.{◌≡◌, ℕ, ◌+◌, ◌*◌, ◌<◌, leb, drop};
 ghost use Rattle.text.specs.declared.Number.TheVariants.{Value, Malformed};
 ghost use Rattle.text.specs.Text.{seek, value_part, word_is, key_is, digits, number_in};

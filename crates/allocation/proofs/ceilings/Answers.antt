@@ -1,0 +1,78 @@
+-- The code's steps are the definitions of R, X, the weights, the shares and the ceilings, one after the other.
+-- Assumes nothing.
+use mathlib.Core.Path.{◌≡◌, sym, ◌∙◌, ap}
+use mathlib.Core.Bool.{cond}
+use mathlib.Core.List.{List}
+use Prim.Native.Nat.{ℕ, ◌+◌, ◌-◌}
+use native.Mathlib.Omega.{arith}
+use lib.Dec.{eqb}
+use lib.ListN.{length, get_or}
+use Rattle.finite.specs.Finite.{tabulate}
+use Rattle.finite.proofs.Tables.{length_tabulate}
+use Rattle.energy.specs.declared.NetKwh.{NetKwh}
+use Rattle.energy.specs.declared.HubGrains.{HubGrains}
+use Rattle.energy.specs.Energy.{hub_of}
+use Rattle.apportion.specs.Shares.{shares}
+use Rattle.allocation.specs.Allocation.{above, net_at, gross_at, net_energy, real_sum, excess, weight_at, excess_shares, ceiling_at, ceilings_is}
+use Rattle.allocation.proofs.Weights.{real_most, weights_fit, share_most}
+use Rattle.allocation.proofs.ceilings.Goals.{After-apportion, After-hub_of-excess, After-weights_of-weights}
+use Rattle.allocation.proofs.ceilings.Goals as goal
+
+-- the code's steps are the definitions
+excess-here : (c : After-hub_of-excess) →
+    let a = c.args in
+    c.hub_of-excess.result ≡ excess a.net a.reverse a.plant
+unfolding excess net_energy real_sum
+excess-here c =
+    let a = c.args in
+    let reals = c.real_sum-reals in
+    let e =
+    c.above-2.ensures
+    ∙ (ap (λ (n : ℕ). n - reals.result.0) c.above.ensures
+    ∙ ap (λ (r : NetKwh). a.net.0 - a.reverse.0 - r.0) reals.ensures) in
+    let n : c.above-2.result ≡ above (above a.net a.reverse) (real_sum a.plant) = λ i. record { 0 = e i } in
+    c.hub_of-excess.ensures ∙ ap (λ (n : NetKwh). hub_of n a.plant.loss) n
+
+weights-here : (c : After-weights_of-weights) → c.weights_of-weights.result ≡ tabulate 8 (weight_at c.args.plant)
+unfolding weight_at real_sum
+weights-here c =
+    let plant = c.args.plant in
+    c.weights_of-weights.ensures
+    ∙ ap
+    (λ (r : NetKwh). tabulate 8 (λ (k : ℕ). cond (eqb r.0 0) (gross_at plant.units plant.nominal k).0 (net_at plant.units plant.real k).0))
+    c.real_sum-reals.ensures
+
+shares-here : (c : After-apportion) →
+    let a = c.args in
+    c.apportion.new.1.1.0 ≡ excess_shares a.net a.reverse a.plant
+unfolding excess_shares
+shares-here c =
+    let x = c.hub_of-excess.result.0 in
+    let plant = c.args.plant in
+    c.apportion.ensures
+    ∙ (ap (λ (w : List ℕ). shares w x) (weights-here (?After-weights_of-weights c))
+    ∙ ap (λ (g : HubGrains). shares (tabulate 8 (weight_at plant)) g.0) (excess-here (?After-hub_of-excess c)))
+
+pub real_sum-reals-requires : goal.real_sum-reals-requires
+real_sum-reals-requires c = real_most c.args.plant c.requires.1
+
+pub apportion-requires : goal.apportion-requires
+apportion-requires c =
+    let f = weights_fit c.args.plant c.requires.1 c.args.net c.args.reverse c.requires.0 in
+    let w = weights-here (goal.at.apportion-requires c).After-weights_of-weights in
+    (sym (ap length w ∙ length_tabulate 8 (weight_at c.args.plant)), rw w f.0, rw w (rw (ap (λ (g : HubGrains). g.0) (excess-here (goal.at.apportion-requires c).After-hub_of-excess)) f.1))
+
+pub with_shares-requires : goal.with_shares-requires
+with_shares-requires c = (
+      real_most c.args.plant c.requires.1,
+      rw (shares-here (goal.at.with_shares-requires c).After-apportion) (share_most c.args.plant c.requires.1 c.args.net c.args.reverse c.requires.0),
+      omega (arith, c.requires.1.lost),
+    )
+
+pub returns : goal.returns
+unfolding ceiling_at
+returns c =
+    let plant = c.args.plant in
+    let ceiling : List ℕ → ℕ → HubGrains = λ shares k. record { 0 = (hub_of (net_at plant.units plant.real k) plant.loss).0 + get_or shares k 0 } in
+    c.with_shares.ensures
+    ∙ (ap (λ (l : List ℕ). tabulate 8 (ceiling l)) (shares-here (goal.at.returns c).After-apportion) ∙ sym (ceilings_is _ _ plant))

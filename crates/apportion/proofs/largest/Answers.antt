@@ -1,0 +1,45 @@
+-- The loop's invariant: `part` is the definition's for the parts passed, and `most` is what is left of its remainder.
+-- Assumes nothing.
+use Rattle.apportion.proofs.Ones.{largest_one, replaced, kept}
+use Rattle.apportion.specs.Shares.{remainder_left, largest, quotient, remainder}
+use native.Mathlib.Omega.{arith}
+use Prim.Native.Nat.{ℕ, ◌-◌}
+use mathlib.Core.Logic.{⊎_elim}
+use mathlib.Core.Path.{ap, sym, ◌∙◌}
+use Rattle.apportion.proofs.largest.Goals as goal
+
+pub remainder_left-most-requires : goal.remainder_left-most-requires
+remainder_left-most-requires c = (omega arith, omega arith, omega arith, c.requires.3)
+
+pub loop-i-init : goal.loop-i-init
+loop-i-init c = (omega arith, sym (largest_one _ _ _), c.remainder_left-most.ensures)
+
+pub remainder_left-x-requires : goal.remainder_left-x-requires
+remainder_left-x-requires c = (omega arith, omega arith, omega arith, c.requires.3)
+
+pub loop-i-preserved : goal.loop-i-preserved
+loop-i-preserved c =
+    let g = c.args in
+    let q = quotient g.all g.total g.weights.now in
+    let r = remainder g.all g.total g.weights.now in
+    let l = c.loop-i in
+    let x = c.remainder_left-x.ensures in
+    ⊎_elim
+    (λ w. (
+      omega arith,
+      w.1 ∙ replaced q r g.shares.now l.i l.part l.invariant.1 (omega (arith, l.invariant.2, x, w.0.taken)),
+      w.2 ∙ (x ∙ ap (remainder_left q r g.shares.now) (sym w.1)),
+    ))
+    (λ w. (
+      omega arith,
+      w.1 ∙ kept q r g.shares.now l.i l.part l.invariant.1 (omega (arith, l.invariant.2, x, w.0.left)),
+      w.2 ∙ (l.invariant.2 ∙ ap (remainder_left q r g.shares.now) (sym w.1)),
+    ))
+    c.if-most-x.branch
+
+pub returns : goal.returns
+returns c =
+    let g = c.args in
+    let q = quotient g.all g.total g.weights.now in
+    let r = remainder g.all g.total g.weights.now in
+    c.loop-i.invariant.1 ∙ ap (λ (n : ℕ). largest q r g.shares.now n) (omega arith)

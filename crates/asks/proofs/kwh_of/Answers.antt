@@ -1,0 +1,10 @@
+-- By the kind.
+-- Assumes nothing.
+use borrow.Author.Tests.{eq-eqb, ne_eqb}
+use Rattle.asks.proofs.kwh_of.Goals as goal
+
+pub returns-then-kind-eq3 : goal.returns-then-kind-eq3
+returns-then-kind-eq3 c = simp (eq-eqb _ _ c.if-kind-eq3.true)
+
+pub returns : goal.returns
+returns c = simp (ne_eqb _ _ c.if-kind-eq3.false)

@@ -1,0 +1,12 @@
+use Prim.Native.Nat.{◌-◌}
+use lib.ListN.{get_or}
+use Rattle.state.specs.Sizes.{entries}
+use Rattle.state.specs.Book.{no_grains}
+use Rattle.numbers.proofs.Filling.{Filling}
+use Rattle.numbers.proofs.grains_of.Given as goal
+
+abbrev pub invariant-loop-j : goal.invariant-loop-j
+invariant-loop-j l = Filling entries (λ l.j. (get_or l.energy l.j no_grains).0) l.out l.j
+
+abbrev pub decreases-loop-j : goal.decreases-loop-j
+decreases-loop-j l = entries - l.j

@@ -1,0 +1,13 @@
+use Prim.Native.Nat.{◌-◌, ◌≤◌}
+use mathlib.Core.Path.{◌≡◌}
+use lib.ListN.{length, take}
+use Rattle.finite.specs.Finite.{tabulate}
+use Rattle.lines.specs.Cells.{line_in}
+use Rattle.blanks.specs.Blanks.{place_by}
+use Rattle.record_text.proofs.record_by.Given as goal
+
+abbrev pub invariant-loop-k : goal.invariant-loop-k
+invariant-loop-k l = (l.k ≤ 8) × (length l.unit ≡ 8) × (take l.k l.unit ≡ tabulate l.k (place_by (line_in l.cells) l.units l.monthly))
+
+abbrev pub decreases-loop-k : goal.decreases-loop-k
+decreases-loop-k l = 8 - l.k

@@ -1,0 +1,17 @@
+-- The three returns are the three cases of the definition.
+-- Assumes nothing.
+use borrow.Author.Tests.{lt-ltb, le-ltb}
+use Rattle.sheet_lines.specs.Rows.{row_at}
+use Rattle.sheet_lines.proofs.row_at.Goals as goal
+
+pub returns-then-k-lt30 : goal.returns-then-k-lt30
+unfolding row_at
+returns-then-k-lt30 c = simp (lt-ltb _ _ c.if-k-lt30.true) c.head_row.ensures
+
+pub returns-then-k-n : goal.returns-then-k-n
+unfolding row_at
+returns-then-k-n c = simp (le-ltb _ _ c.if-k-lt30.false, lt-ltb _ _ c.if-k-n.true) c.unit_row.ensures
+
+pub returns : goal.returns
+unfolding row_at
+returns c = simp (le-ltb _ _ c.if-k-lt30.false, le-ltb _ _ c.if-k-n.false) c.end_row.ensures

@@ -1,0 +1,11 @@
+use Rattle.text.specs.Text.{key_is}
+use lib.ListN.{drop}
+use Prim.Native.Nat.{◌≤◌, ◌-◌}
+use mathlib.Core.Path.{◌≡◌}
+use Rattle.text.proofs.key_is.Given as goal
+
+abbrev pub invariant-loop-i : goal.invariant-loop-i
+invariant-loop-i l = (l.i ≤ 10) × (key_is (drop l.i l.line) (drop l.i l.key) ≡ key_is l.line l.key)
+
+abbrev pub decreases-loop-i : goal.decreases-loop-i
+decreases-loop-i l = 10 - l.i

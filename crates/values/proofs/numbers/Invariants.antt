@@ -1,0 +1,18 @@
+use Rattle.text.specs.Rows.{no_line}
+use Rattle.values.specs.Values.{numbers}
+use lib.ListN.{length, drop}
+use Prim.Native.Nat.{◌≤◌, ◌<◌, ◌-◌, ◌+◌}
+use mathlib.Core.Path.{◌≡◌}
+use Rattle.values.proofs.numbers.Given as goal
+
+abbrev pub invariant-loop-left : goal.invariant-loop-left
+invariant-loop-left l =
+    (l.from ≤ length l.value)
+    × (l.count + l.left ≡ l.initial.left)
+    × (l.initial.left < 256)
+    × (l.p ≤ l.count)
+    × (numbers l.low l.high l.parts l.left l.p (drop l.from l.value) (line l.count l.number) ≡ numbers l.low l.high l.parts l.initial.left 0 l.value (no_line 0))
+    × (length l.number ≡ length l.initial.number)
+
+abbrev pub decreases-loop-left : goal.decreases-loop-left
+decreases-loop-left l = l.left
