@@ -4,8 +4,8 @@ use Rattle.apportion.proofs.Ones.{largest_one, replaced, kept}
 use Rattle.apportion.specs.Shares.{remainder_left, largest, quotient, remainder}
 use native.Mathlib.Omega.{arith}
 use Prim.Native.Nat.{ℕ, ◌-◌}
-use mathlib.Core.Logic.{⊎_elim}
 use mathlib.Core.Path.{ap, sym, ◌∙◌}
+use Rattle.apportion.proofs.largest.Goals.{then-most-x, else-most-x}
 use Rattle.apportion.proofs.largest.Goals as goal
 
 pub remainder_left-most-requires : goal.remainder_left-most-requires
@@ -24,18 +24,18 @@ loop-i-preserved c =
     let r = remainder g.all g.total g.weights.now in
     let l = c.loop-i in
     let x = c.remainder_left-x.ensures in
-    ⊎_elim
-    (λ w. (
-      omega arith,
-      w.1 ∙ replaced q r g.shares.now l.i l.part l.invariant.1 (omega (arith, l.invariant.2, x, w.0.taken)),
-      w.2 ∙ (x ∙ ap (remainder_left q r g.shares.now) (sym w.1)),
-    ))
-    (λ w. (
-      omega arith,
-      w.1 ∙ kept q r g.shares.now l.i l.part l.invariant.1 (omega (arith, l.invariant.2, x, w.0.left)),
-      w.2 ∙ (l.invariant.2 ∙ ap (remainder_left q r g.shares.now) (sym w.1)),
-    ))
-    c.if-most-x.branch
+    elim c.if-most-x.branch [
+      then-most-x w ↦ (
+        omega arith,
+        w.part-is ∙ replaced q r g.shares.now l.i l.part l.invariant.1 (omega (arith, l.invariant.2, x, w.if-most-x.true)),
+        w.most-is ∙ (x ∙ ap (remainder_left q r g.shares.now) (sym w.part-is)),
+      )
+    | else-most-x w ↦ (
+        omega arith,
+        w.part-is ∙ kept q r g.shares.now l.i l.part l.invariant.1 (omega (arith, l.invariant.2, x, w.if-most-x.false)),
+        w.most-is ∙ (l.invariant.2 ∙ ap (remainder_left q r g.shares.now) (sym w.part-is)),
+      )
+    ]
 
 pub returns : goal.returns
 returns c =

@@ -7,4 +7,4 @@ use Rattle.calls.proofs.file_of.Goals as goal
 -- LOST slice-aggregate-write-all-3
 -- src/main.rt:19:34
 slice-aggregate-write-all-3 : tie.Need-slice-aggregate-write-all-3
-slice-aggregate-write-all-3 c = sym (length-take-le c.before.before.replay-of.result c.before.before.replay-of.new.1.0 c.before.before.replay-of.ensures.1)
+slice-aggregate-write-all-3 c = sym (length-take-le c.before.before.replay_of.result c.before.before.replay_of.new.1.0 c.before.before.replay_of.ensures.1)

@@ -8,5 +8,5 @@ use Rattle.days.proofs.statement_of.Goals as goal
 -- LOST slice-aggregate-say-2
 slice-aggregate-say-2 : tie.Need-slice-aggregate-say-2
 slice-aggregate-say-2 c =
-    let r = c.before.before.before.before.before.statement-of in
+    let r = c.before.before.before.before.before.statement_of in
     sym (length-take-le r.result r.new.1.0 (omega (arith, r.auto, r.ensures.1)))

@@ -69,8 +69,8 @@ put_number_returns_3 : (t : ℕ) → put-number-lts.Need-returns-3 (digit-reads.
 put_number_returns_3 t c =
     let g = c.before.before.before.before.before.before.before.before.before.before.before.args in
     let o = output g.out.now g.at in
-    let hundreds = output c.before.before.before.before.before.before.put-number.new.0 c.before.before.before.before.before.before.put-number.result in
-    then o hundreds (digits (g.n / 100)) (two_digits (g.n % 100)) c.before.before.before.before.before.before.put-number.ensures c.before.before.put-two2.ensures
+    let hundreds = output c.before.before.before.before.before.before.put_number.new.0 c.before.before.before.before.before.before.put_number.result in
+    then o hundreds (digits (g.n / 100)) (two_digits (g.n % 100)) c.before.before.before.before.before.before.put_number.ensures c.before.before.put-two2.ensures
     ∙ ap (written o) (sym (digits_hundreds g.n c.before.before.before.before.before.before.before.before.if2.false))
 
 pub +put-number-spec : {M : Type 1} → statement M

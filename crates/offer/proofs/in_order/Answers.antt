@@ -10,12 +10,12 @@ pub returns-then-exceeds : goal.returns-then-exceeds
 unfolding in_order
 returns-then-exceeds c =
     let a = c.args in
-    let rises : ltb a.quantity.0 a.next-quantity.0 ≡ true = cc in
+    let rises : ltb a.quantity.0 a.next_quantity.0 ≡ true = cc in
     rw rises
 
 pub returns : goal.returns
 unfolding in_order
 returns c =
     let a = c.args in
-    let rises : ltb a.quantity.0 a.next-quantity.0 ≡ false = cc in
+    let rises : ltb a.quantity.0 a.next_quantity.0 ≡ false = cc in
     rw rises

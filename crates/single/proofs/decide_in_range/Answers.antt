@@ -28,8 +28,8 @@ asked c = call_of c.args.text.now c.args.call
 
 abbrev numbers : tie.After-offers → Table
 numbers c =
-    table c.before.before.before.before.before.before.before.before.before.kwh-of.result (entry c).args.book.mark
-    c.before.before.before.before.before.before.before.grains-of.result c.before.before.before.before.before.before.amount-numbers.result
+    table c.before.before.before.before.before.before.before.before.before.kwh_of.result (entry c).args.book.mark
+    c.before.before.before.before.before.before.before.grains_of.result c.before.before.before.before.before.before.amount_numbers.result
 
 sized : (c : Start) → Sized c.args.book
 sized c = typed_sized c.args.book _ c.well_formed.1.0
@@ -55,10 +55,10 @@ handed c =
 
 -- the numbers and the rows that the engine leaves, and what it says of them
 abbrev left : tie.After-carry-out → Table
-left c = let l = c.carry-out.new in table l.0 l.1.0 l.1.1.0 l.1.1.1.0
+left c = let l = c.carry_out.new in table l.0 l.1.0 l.1.1.0 l.1.1.1.0
 
 abbrev rows : tie.After-carry-out → List ℤ
-rows c = c.carry-out.new.1.1.1.1.0
+rows c = c.carry_out.new.1.1.1.1.0
 
 carried : (c : After-carry_out-done)
     → let s = entry (?After-offers-1 c) in
@@ -93,7 +93,7 @@ add-t48 c =
     let s = entry x.before in
     let a = s.args in
     let most = posted_most a.sheet a.book (asked s) a.count a.places s.pre.0 s.pre.1 _ _ _ _ (carried x) in
-    record { fits = omega (arith, most, c.before.before.before.before.before.before.posted-of.ensures) }
+    record { fits = omega (arith, most, c.before.before.before.before.before.before.posted_of.ensures) }
 
 pub returns : goal.returns
 returns c =

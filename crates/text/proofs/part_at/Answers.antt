@@ -9,8 +9,8 @@ use lib.ListN.{length, drop, get_or, length-drop}
 use native.Mathlib.Omega.{arith}
 use Prim.Native.Nat.{◌≤◌, ◌+◌}
 use mathlib.Core.Path.{◌≡◌, sym, ◌∙◌}
-use mathlib.Core.Logic.{⊎_elim}
 use Rattle.text.proofs.part_at.Goals.{In-Value}
+use Rattle.text.proofs.part_at.Goals.{then-from-d+else-value-from-eq48, else-from-d}
 use Rattle.text.proofs.part_at.Goals as goal
 
 -- the digits make a number, and end where the part does
@@ -63,4 +63,7 @@ returns c =
     let n = c.in-Value.n in
     let e = end_is (goal.at.returns c).In-Value in
     let first : 2 ≤ length b → get_or b 0 0 ≡ 48 → ⊥ =
-    λ h z. ⊎_elim (λ w. w.2.left (sym (part_first v g.from _ e (omega (arith, part_length v g.from _ e))) ∙ z)) (λ w. omega (arith, part_length v g.from _ e)) c.if-from-d.branch in record { number_value = c.in-Value.is ∙ sym (plain g.low g.high b n (value-is (goal.at.returns c).In-Value) (omega (arith, c.if-n-low.false)) (omega (arith, part_length v g.from _ e, c.if-d-from.false)) first); by_index = c.digits_at-d.ensures.by_index }
+    λ h z. elim c.if-from-d.branch [
+      then-from-d+else-value-from-eq48 w ↦ w.if-value-from-eq48.false (sym (part_first v g.from _ e (omega (arith, part_length v g.from _ e))) ∙ z)
+    | else-from-d w ↦ omega (arith, part_length v g.from _ e)
+    ] in record { number_value = c.in-Value.is ∙ sym (plain g.low g.high b n (value-is (goal.at.returns c).In-Value) (omega (arith, c.if-n-low.false)) (omega (arith, part_length v g.from _ e, c.if-d-from.false)) first); by_index = c.digits_at-d.ensures.by_index }
