@@ -1,6 +1,7 @@
 // A text read line by line. The reader's state is a cursor by value; the lines read are kept in a lent list of numbers,
 // 25 cells for each line: first how many numbers the line has, then its 24 numbers.
 #![tactic(auto)]
+
 ghost use Rattle.std.specs.Prelude.{◌≡◌, ◌+◌, ◌^◌, ◌≤◌, ◌<◌, length, get_or};
 ghost use Rattle.values.specs.Values.{value_of};
 ghost use Rattle.lines.specs.Lines.{Reading, read_line};

@@ -1,5 +1,6 @@
 // The value of a line, read by its row.
 #![tactic(auto)]
+
 ghost use Rattle.std.specs.Prelude.{◌≡◌, ◌/◌, ◌<◌, get_or, set, replicate};
 ghost use Rattle.text.specs.Rows.{no_line};
 ghost use Rattle.values.specs.Values.{mark_due, part_next, value_of, Held};

@@ -18,12 +18,12 @@ returns-then-cells-last c =
     }
 
 pub value_into-h-requires : goal.value_into-h-requires
-value_into-h-requires c = blank_part c.args.cells.now c.args.k (omega (arith, c.if-cells-last.false)) c.requires.1
+value_into-h-requires c = blank_part c.args.cells.now c.args.k (omega (arith, c.if-cells-last.false)) c.requires.blank
 
 pub returns : goal.returns
 returns c =
     let g = c.args in
     let i = c.value_into-h in
     let room : 25 * g.k + 25 ≤ length g.cells.now = omega (arith, c.if-cells-last.false) in
-    let blank = c.requires.1 in
-    placed g.cells.now g.k room i.result i.new.1.1.0 (value_of g.row g.value.now) i.ensures (i.auto.1.1.0 ∙ ap length (blank_part g.cells.now g.k room blank))
+    let blank = c.requires.blank in
+    placed g.cells.now g.k room i.result i.new.number (value_of g.row g.value.now) i.ensures (i.auto.number ∙ ap length (blank_part g.cells.now g.k room blank))

@@ -36,8 +36,8 @@ loop-i-preserved c =
     let row : c.row_at.result ≡ due_row g.n t.lines = c.row_at.ensures ∙ ap (row_at g.n) l.invariant.3.lines_is in (
       omega (arith, l.invariant.0, c.loop-i-test.true),
       omega (arith, l.invariant.1, r.ensures.1.0),
-      r.auto.1.1.1.0 ∙ l.invariant.2,
-      rw by_next (subst (λ (x : Row). Shows r.new.1.1.1.0 r.result (read_line g.text.now x t)) row (r.ensures.0 t l.invariant.3)),
+      r.auto.cells ∙ l.invariant.2,
+      rw by_next (subst (λ (x : Row). Shows r.new.cells r.result (read_line g.text.now x t)) row (r.ensures.0 t l.invariant.3)),
       r.ensures.1.1,
     )
 

@@ -24,11 +24,11 @@ within : (c : Else-bad_start) → (length c.args.text.now ≤ 65536) × (c.args.
 within c = start_within c.args.text.now c.args.start (sym c.bad_start.ensures ∙ c.if-bad_start.false)
 
 -- what the cursor and the cells show
-shown : (c : After-read_lines-c) → Shows c.read_lines-c.new.1.1.0 c.read_lines-c.result (read_lines (drop c.args.start c.args.text.now) (ones c.args.units))
+shown : (c : After-read_lines-c) → Shows c.read_lines-c.new.cells c.read_lines-c.result (read_lines (drop c.args.start c.args.text.now) (ones c.args.units))
 shown c =
     let g = c.args in
-    subst (λ (l : List ℕ). Shows c.read_lines-c.new.1.1.0 c.read_lines-c.result (read_lines l (ones g.units))) (rest g.text.now g.start)
-    (subst (λ (n : ℕ). Shows c.read_lines-c.new.1.1.0 c.read_lines-c.result (read_lines (take (length g.text.now - g.start) (drop g.start g.text.now)) n)) c.unit_count-n.ensures
+    subst (λ (l : List ℕ). Shows c.read_lines-c.new.cells c.read_lines-c.result (read_lines l (ones g.units))) (rest g.text.now g.start)
+    (subst (λ (n : ℕ). Shows c.read_lines-c.new.cells c.read_lines-c.result (read_lines (take (length g.text.now - g.start) (drop g.start g.text.now)) n)) c.unit_count-n.ensures
     c.read_lines-c.ensures.shows)
 
 -- its place and lines are machine numbers, and the cells are as many as they were
@@ -38,8 +38,8 @@ fit c =
     let place = place_in (drop g.start g.text.now) (ones g.units) in
     (omega (arith, (shown c).at_is, place, length-drop g.start g.text.now, within (?Else-bad_start c)), omega (arith, c.read_lines-c.ensures.lines_bound))
 
-room : (c : After-read_lines-c) → 2100 ≤ length c.read_lines-c.new.1.1.0
-room c = omega (arith, c.read_lines-c.auto.1.1.0)
+room : (c : After-read_lines-c) → 2100 ≤ length c.read_lines-c.new.cells
+room c = omega (arith, c.read_lines-c.auto.cells)
 
 pub returns-then-bad_start : goal.returns-then-bad_start
 returns-then-bad_start c =
@@ -67,7 +67,7 @@ returns-then-c-eq0 c =
     let good = c.if-c-eq0.true in
     let read : c.record_by.result ≡ record_of s g.units g.monthly =
     c.record_by.ensures
-    ∙ (shown_record (drop g.start g.text.now) c.read_lines-c.new.1.1.0 g.units g.monthly c.read_lines-c.result c.ranges.units.fits sh good (room (goal.at.returns-then-c-eq0 c).After-read_lines-c)
+    ∙ (shown_record (drop g.start g.text.now) c.read_lines-c.new.cells g.units g.monthly c.read_lines-c.result c.ranges.units.fits sh good (room (goal.at.returns-then-c-eq0 c).After-read_lines-c)
     ∙ sym (simp (eq-eqb _ _ (sym sh.refusal_is ∙ good)))) in
     (λ i. record { answer = c.answer_of.ensures s sh.refusal_is sh.at_is sh.lines_is i; read = read i })
     ∙ sym (start_good g.text.now g.start g.units g.monthly (sym c.bad_start.ensures ∙ c.if-bad_start.false))

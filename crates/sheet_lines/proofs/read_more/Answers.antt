@@ -27,7 +27,7 @@ loop-i-preserved c =
     let r = c.read_line-d in (
       omega (arith, l.invariant.0, c.loop-i-test.true),
       omega (arith, l.invariant.1, r.ensures.1.0),
-      r.auto.1.1.1.0 ∙ l.invariant.2,
+      r.auto.cells ∙ l.invariant.2,
       λ s shown. let t = read_by g.text.now due_row l.i s in
           let now : Shows l.cells l.d t = l.invariant.3 s shown in
           let row : c.row_at-row.result ≡ due_row t.lines =
@@ -36,7 +36,7 @@ loop-i-preserved c =
           ∙ (ap (λ (n : ℕ). row_at (number_of (line_in l.cells 0)) n l.d.lines) c.units_read.ensures.value
           ∙ (ap (row_at (number_of (line_in l.cells 0)) (ones (number_of (line_in l.cells 29)))) now.lines_is
           ∙ row_due l.cells t.lines now.kept (omega (arith, l.invariant.2, c.requires.0))))) in
-          rw by_next (subst (λ (x : Row). Shows r.new.1.1.1.0 r.result (read_line g.text.now x t)) row (r.ensures.0 t now)),
+          rw by_next (subst (λ (x : Row). Shows r.new.cells r.result (read_line g.text.now x t)) row (r.ensures.0 t now)),
       r.ensures.1.1,
     )
 

@@ -27,8 +27,8 @@ begun : (c : Else-bad_start) → bad_start c.args.text.now c.args.start ≡ fals
 begun c = sym c.bad_start.ensures ∙ c.if-bad_start.false
 
 -- the cursor and the cells show the lines of the part from the start on
-shown : (c : After-read_lines-c) → Shows c.read_lines-c.new.1.0 c.read_lines-c.result (read_lines (drop c.args.start c.args.text.now))
-shown c = subst (λ (t : List ℕ). Shows c.read_lines-c.new.1.0 c.read_lines-c.result (read_lines t)) (rest c.args.text.now c.args.start) c.read_lines-c.ensures.shows
+shown : (c : After-read_lines-c) → Shows c.read_lines-c.new.cells c.read_lines-c.result (read_lines (drop c.args.start c.args.text.now))
+shown c = subst (λ (t : List ℕ). Shows c.read_lines-c.new.cells c.read_lines-c.result (read_lines t)) (rest c.args.text.now c.args.start) c.read_lines-c.ensures.shows
 
 -- the place and the lines are small numbers
 fits : (c : After-read_lines-c) → (c.args.start + c.read_lines-c.result.at < 2 ^ 63) × (c.read_lines-c.result.lines < 2 ^ 63)
@@ -61,7 +61,7 @@ returns-then-c-eq0 c =
     let s = shown (goal.at.returns-then-c-eq0 c).After-read_lines-c in
     let good = c.if-c-eq0.true in
     let read : sheet_of (read_lines t) ≡ sheet_by (line_of (read_lines t).lines) = simp (eq-eqb _ _ (sym s.refusal_is ∙ good)) in
-    let sheet = c.sheet_by.ensures ∙ (shown_sheet t c.read_lines-c.new.1.0 c.read_lines-c.result s good (omega (arith, c.read_lines-c.auto.1.0)) ∙ sym read) in
+    let sheet = c.sheet_by.ensures ∙ (shown_sheet t c.read_lines-c.new.cells c.read_lines-c.result s good (omega (arith, c.read_lines-c.auto.cells)) ∙ sym read) in
     (λ i. record { answer = c.answer_of.ensures (read_lines t) s.refusal_is s.at_is s.lines_is i; sheet = sheet i })
     ∙ sym (start_good g.text.now g.start (begun (goal.at.returns-then-c-eq0 c).Else-bad_start))
 

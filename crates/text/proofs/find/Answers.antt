@@ -2,7 +2,6 @@
 -- Assumes nothing.
 use Rattle.text.proofs.Walk.{seek_end, seek_first, seek_on}
 use native.Mathlib.Omega.{arith}
-use Prim.Native.Nat.{◌-◌}
 use mathlib.Core.Path.{refl}
 use Rattle.text.proofs.find.Goals as goal
 

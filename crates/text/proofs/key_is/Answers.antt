@@ -2,7 +2,6 @@
 -- Assumes nothing.
 use Rattle.text.proofs.Walk.{key_none, key_short, key_other, key_end, key_on}
 use native.Mathlib.Omega.{arith}
-use Prim.Native.Nat.{◌-◌}
 use mathlib.Core.Path.{refl, sym, ◌∙◌}
 use Rattle.text.proofs.key_is.Goals as goal
 

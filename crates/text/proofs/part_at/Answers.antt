@@ -64,6 +64,6 @@ returns c =
     let e = end_is (goal.at.returns c).In-Value in
     let first : 2 ≤ length b → get_or b 0 0 ≡ 48 → ⊥ =
     λ h z. elim c.if-from-d.branch [
-      then-from-d+else-value-from-eq48 w ↦ w.if-value-from-eq48.false (sym (part_first v g.from _ e (omega (arith, part_length v g.from _ e))) ∙ z)
-    | else-from-d w ↦ omega (arith, part_length v g.from _ e)
+      | then-from-d+else-value-from-eq48 w ↦ w.if-value-from-eq48.false (sym (part_first v g.from _ e (omega (arith, part_length v g.from _ e))) ∙ z)
+      | else-from-d w ↦ omega (arith, part_length v g.from _ e)
     ] in record { number_value = c.in-Value.is ∙ sym (plain g.low g.high b n (value-is (goal.at.returns c).In-Value) (omega (arith, c.if-n-low.false)) (omega (arith, part_length v g.from _ e, c.if-d-from.false)) first); by_index = c.digits_at-d.ensures.by_index }

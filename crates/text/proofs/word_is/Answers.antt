@@ -2,7 +2,6 @@
 -- Assumes nothing.
 use Rattle.text.proofs.Walk.{word_end, word_past, word_short, word_other, word_on, word_none}
 use native.Mathlib.Omega.{arith}
-use Prim.Native.Nat.{◌-◌}
 use mathlib.Core.Path.{sym, ◌∙◌}
 use Rattle.text.proofs.word_is.Goals as goal
 

@@ -14,10 +14,7 @@ use mathlib.Core.List.{List}
 use mathlib.Core.Path.{◌≡◌, refl, ap, sym, ◌∙◌}
 use Rattle.values.proofs.numbers.Goals.{After-part_at-part, After-store, In-Value, In-loop-left}
 use Rattle.values.proofs.numbers.Goals as goal
-
--- the numbers so far
-abbrev line : ℕ → List ℕ → Line
-line count number = record { code = 0; count = count; number = number }
+use Rattle.values.proofs.numbers.Invariants.{line}
 
 -- the loop's rest is the whole, in a turn
 so_far : (c : In-loop-left) →
@@ -45,7 +42,9 @@ number_is : (c : In-Value) →
     let r = c.args.row in
     let l = c.loop-left in
     number_in (get_or r.low l.p 0) (get_or r.high l.p 0) (part_bytes c.args.value.now l.from) ≡ Value c.in-Value.n
-number_is c = number-here (?After-part_at-part c) ∙ c.in-Value.is
+number_is c =
+    let v = c.args.value.now in
+    sym (c.part_at-part.ensures.number_value ∙ (λ i. number_in (c.bound.ensures i) (c.bound-in-loop-left.ensures i) (part_bytes v c.loop-left.from))) ∙ c.in-Value.is
 
 end_is : (c : In-Value) → c.part_at-part.result.end ≡ c.loop-left.from + seek 58 44 (drop c.loop-left.from c.args.value.now)
 end_is c = c.part_at-part.ensures.by_index c.in-Value.n c.in-Value.is
@@ -72,7 +71,7 @@ pub overflow_add-p : goal.overflow_add-p
 overflow_add-p c = omega (arith, c.loop-left.invariant)
 
 -- the numbers after a store are as many as they were
-stored : (c : After-store) → length c.store.new.0 ≡ length c.args.number.now
+stored : (c : After-store) → length c.store.new.number ≡ length c.args.number.now
 stored c = let l = c.loop-left in ap length c.store.ensures ∙ (length-set l.number l.count _ ∙ l.invariant.5)
 
 pub shape_of-number-then-p-parts : goal.shape_of-number-then-p-parts

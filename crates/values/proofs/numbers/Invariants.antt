@@ -1,9 +1,15 @@
 use Rattle.text.specs.Rows.{no_line}
 use Rattle.values.specs.Values.{numbers}
 use lib.ListN.{length, drop}
-use Prim.Native.Nat.{◌≤◌, ◌<◌, ◌-◌, ◌+◌}
+use Rattle.text.specs.declared.Line.{Line}
+use mathlib.Core.List.{List}
+use Prim.Native.Nat.{ℕ, ◌≤◌, ◌<◌, ◌+◌}
 use mathlib.Core.Path.{◌≡◌}
 use Rattle.values.proofs.numbers.Given as goal
+
+-- the numbers so far
+abbrev pub line : ℕ → List ℕ → Line
+line count number = record { code = 0; count = count; number = number }
 
 abbrev pub invariant-loop-left : goal.invariant-loop-left
 invariant-loop-left l =

@@ -1,5 +1,5 @@
 use Rattle.values.specs.Values.{rising}
-use Prim.Native.Nat.{◌≤◌, ◌-◌, ◌+◌, ◌*◌, ◌/◌}
+use Prim.Native.Nat.{◌≤◌, ◌+◌, ◌*◌, ◌/◌}
 use mathlib.Core.Path.{◌≡◌}
 use Rattle.values.proofs.rising.Given as goal
 
