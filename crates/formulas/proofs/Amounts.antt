@@ -45,7 +45,7 @@ fits z h = record { sfits = omega (arith, mag_le z) }
 
 -- a signed number is what its bits say; of a call's result, `back _ c.f.ok`
 pub back : (z : ℤ) → mag z < 2 ^ 63 → to_z w64 (of_z w64 z) ≡ z
-back z h = to_z-of_z (record { sfits = h })
+back z h = to_z-of_z {w = w64} (record { sfits = h })
 
 pub small : (z : ℤ) → nat_abs z < 2 ^ 63 → to_z w64 (of_z w64 z) ≡ z
 small z h = back z (omega (arith, mag_le z))

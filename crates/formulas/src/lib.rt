@@ -1,5 +1,6 @@
 // The arithmetic of a unit's items but the test, in Rial: the season, the ceiling of a declaration, each item's magnitude, and its sign.
 #![tactic(auto)]
+
 ghost use Rattle.std.specs.Prelude.{◌≡◌, ◌+◌, ◌^◌, ◌≤◌, ◌<◌};
 ghost use Rattle.formulas.specs.Items.{first_kind, kinds, deviation_of, in_order, in_season, declaration_ceiling, energy_pay, availability, refund_kwh, refund as the_refund, drawn_pay, paid as the_paid, owed as the_owed};
 

@@ -13,4 +13,4 @@ overflow_sub-result c =
     rw (to_z_pos w64 c.requires, +ℤ_idl (neg_ℤ z)) (fits (neg_ℤ z) (omega (arith, nat_abs_neg z)))
 
 pub returns : goal.returns
-returns c = rw (to_z-of_z (sub-result c), to_z_pos w64 c.requires, +ℤ_idl (neg_ℤ (pos c.args.magnitude)))
+returns c = rw (to_z-of_z (overflow_sub-result c), to_z_pos w64 c.requires, +ℤ_idl (neg_ℤ (pos c.args.magnitude)))
