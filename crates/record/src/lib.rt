@@ -1,5 +1,6 @@
 // The hour record: its type, the empty one, how a span's kind counts, and the test of the spans' minutes.
 #![tactic(auto)]
+
 ghost use Rattle.std.specs.Prelude.{◌≡◌, eqb};
 ghost use Rattle.record.specs.Empty.{no_span, no_unit, no_record};
 ghost use Rattle.record.specs.Spans.{counted_kind, minutes_of, minutes_hold};

@@ -1,5 +1,6 @@
 // The day sheet: its type, the empty one, and the test of its ranges and orders.
 #![tactic(auto)]
+
 ghost use Rattle.std.specs.Prelude.{◌≡◌};
 ghost use Rattle.offer.specs.Offer.{offer_holds};
 ghost use Rattle.finite.specs.Finite.{every};

@@ -3,12 +3,12 @@
 use Prim.Native.Nat.{ℕ, ◌-◌}
 use mathlib.Core.Path.{◌≡◌, refl, ap, sym, ◌∙◌}
 use mathlib.Core.Bool.{true}
-use mathlib.Core.Logic.{⊎_elim}
 use native.Mathlib.Omega.{arith}
 use borrow.Author.Tests.{not-true, not-false}
 use Rattle.finite.specs.Finite.{every}
 use Rattle.finite.proofs.Tests.{every_next, every_fails}
 use Rattle.record.specs.Spans.{place_minutes, minutes_hold}
+use Rattle.record.proofs.minutes_hold.Goals.{then-member_at+else-not-unit_minutes, else-member_at}
 use Rattle.record.proofs.minutes_hold.Goals as goal
 
 pub loop-k-init : goal.loop-k-init
@@ -28,10 +28,10 @@ loop-k-preserved c =
     let l = c.loop-k in
     let g = c.args in (
       omega arith,
-      every_next l.k (place_minutes g.hour g.units) l.invariant.1 (⊎_elim
-          (λ w. simp (sym c.member_at.ensures ∙ w.0.taken) (sym w.2.ensures ∙ not-false _ w.3.left))
-          (λ w. simp (sym c.member_at.ensures ∙ w.left))
-          c.if-member_at.branch),
+      every_next l.k (place_minutes g.hour g.units) l.invariant.1 (elim c.if-member_at.branch [
+        | then-member_at+else-not-unit_minutes w ↦ simp (sym c.member_at.ensures ∙ w.if-member_at.true) (sym w.unit_minutes.ensures ∙ not-false _ w.if-not-unit_minutes.false-raw)
+        | else-member_at w ↦ simp (sym c.member_at.ensures ∙ w.if-member_at.false)
+      ]),
     )
 
 pub returns : goal.returns

@@ -2,18 +2,18 @@
 -- Assumes nothing.
 use Prim.Native.Nat.{ℕ, ◌+◌, ◌-◌, ◌≤◌}
 use mathlib.Core.Path.{◌≡◌, refl, ap, sym, ◌∙◌}
-use mathlib.Core.Logic.{⊎_elim}
 use native.Mathlib.Omega.{arith}
 use borrow.Author.Tests.{ne_eqb}
 use lib.Dec.{eqb}
 use Rattle.finite.specs.Finite.{sum}
 use Rattle.finite.proofs.Sums.{sum_next, sum_has}
 use Rattle.record.specs.Spans.{span_at, span_count, minutes_of}
+use Rattle.record.proofs.unit_minutes.Goals.{then-n-gt6, else-n-gt6}
 use Rattle.record.proofs.unit_minutes.Goals as goal
 
 pub loop-i-init : goal.loop-i-init
 unfolding sum
-loop-i-init c = (omega arith, ⊎_elim (λ w. omega arith) (λ w. omega arith) c.if-n-gt6.branch, omega arith, refl)
+loop-i-init c = (omega arith, elim c.if-n-gt6.branch [ then-n-gt6 w ↦ omega arith | else-n-gt6 w ↦ omega arith ], omega arith, refl)
 
 pub returns-then-s-total : goal.returns-then-s-total
 unfolding minutes_of

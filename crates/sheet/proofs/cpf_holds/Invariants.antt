@@ -8,7 +8,7 @@ use Rattle.sheet.specs.Limits.{most_cpf}
 use Rattle.sheet.proofs.cpf_holds.Given as goal
 
 abbrev pub invariant-loop-h : goal.invariant-loop-h
-invariant-loop-h l = (l.h ≤ 24) × (every l.h (λ l.h. leb (get_or l.cpf l.h 0) most_cpf) ≡ true)
+invariant-loop-h l = (l.h ≤ 24) × (every l.h (λ h. leb (get_or l.cpf h 0) most_cpf) ≡ true)
 
 abbrev pub decreases-loop-h : goal.decreases-loop-h
 decreases-loop-h l = 24 - l.h

@@ -6,7 +6,7 @@ use Rattle.sheet.specs.Ranges.{place_holds, unit_at}
 use Rattle.sheet.proofs.units_hold.Given as goal
 
 abbrev pub invariant-loop-k : goal.invariant-loop-k
-invariant-loop-k l = (l.k ≤ 8) × (every l.k (λ l.k. place_holds l.units l.k (unit_at l.unit l.k)) ≡ true)
+invariant-loop-k l = (l.k ≤ 8) × (every l.k (λ k. place_holds l.units k (unit_at l.unit k)) ≡ true)
 
 abbrev pub decreases-loop-k : goal.decreases-loop-k
 decreases-loop-k l = 8 - l.k

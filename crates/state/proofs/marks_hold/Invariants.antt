@@ -9,7 +9,7 @@ use Rattle.state.specs.Book.{open_mark, settled_mark}
 use Rattle.state.proofs.marks_hold.Given as goal
 
 abbrev pub invariant-loop-h : goal.invariant-loop-h
-invariant-loop-h l = (l.h ≤ hours) × (every l.h (λ l.h. eqb (get_or l.mark l.h 0) open_mark || eqb (get_or l.mark l.h 0) settled_mark) ≡ true)
+invariant-loop-h l = (l.h ≤ hours) × (every l.h (λ h. eqb (get_or l.mark h 0) open_mark || eqb (get_or l.mark h 0) settled_mark) ≡ true)
 
 abbrev pub decreases-loop-h : goal.decreases-loop-h
 decreases-loop-h l = hours - l.h
