@@ -1,6 +1,7 @@
 // The day's account: from the bytes of day.txt to the bytes printed. The sheet is read, then takes and hour records are carried out as they
 // come, over a journal of 2,000 places.
 #![tactic(auto)]
+
 ghost use Rattle.std.specs.Prelude.{◌≡◌, true, ◌-◌, ◌≤◌};
 ghost use Rattle.sheet.specs.Ranges.{sheet_holds};
 ghost use Rattle.ledger.specs.Requests.{none_asked};

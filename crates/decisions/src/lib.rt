@@ -1,6 +1,7 @@
 // What each call is decided to be, by value: a call decoded from its numbers, a change of commitments tested, an hour settled, restated or voided
 // by what the sheet and the book have of it, and the numbers of answers. The crate `ledger` says what is right.
 #![tactic(auto)]
+
 ghost use Rattle.std.specs.Prelude.{◌≡◌, true, false, ◌&&◌, ◌||◌, ltb, eqb, ℕ, ◌+◌, ◌≤◌, ◌<◌, min};
 ghost use Rattle.lines.specs.declared.ReadAnswer.TheVariants.{Read};
 ghost use Rattle.settlement.specs.Ranges.{HourDue};
@@ -14,12 +15,12 @@ ghost use Rattle.decisions.specs.Hours.{hour_refused, hour_changed, void_decided
 use energy::HubKwh;
 use ledger::{Answer, Asked, Refusal, Verdict};
 use lines::ReadAnswer;
-use record::{Record};
-use record_text::{RecordRead};
-use settlement::{HourResult};
-use terms::{HourSheet};
+use record::Record;
+use record_text::RecordRead;
+use settlement::HourResult;
 use sheet::Sheet;
 use state::Book;
+use terms::HourSheet;
 
 // The calls that change commitments.
 #[derive(Clone, Copy)]

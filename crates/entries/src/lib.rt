@@ -1,5 +1,6 @@
 // What `replay` prints of a list of calls, written into a lent buffer: a line for each call with its result, and the tables behind them.
 #![tactic(auto)]
+
 ghost use Rattle.std.specs.Prelude.{◌≡◌, ◌<◌};
 ghost use Rattle.state.specs.Sizes.{hours, places};
 ghost use Rattle.decimal.specs.Output.{output, written};

@@ -1,5 +1,6 @@
 // The lines of the statement, written into a lent buffer: settled hours, or a refusal.
 #![tactic(auto)]
+
 ghost use Rattle.std.specs.Prelude.{◌≡◌, ◌+◌, ◌*◌, ◌≤◌, ◌<◌};
 ghost use Rattle.state.specs.Sizes.{hours, places, items};
 ghost use Rattle.decimal.specs.Output.{output, written};

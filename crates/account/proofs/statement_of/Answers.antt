@@ -24,19 +24,25 @@ unfolding statement_of
 returns-in-Read c =
     let g = c.args in
     let o = output g.out.now 0 in
-    let r = c.read_sheet-read.result in record { result_after = c.put_day.ensures.result_after
+    let r = c.read_sheet-read.result in record {
+      result_after = c.put_day.ensures.result_after
           ∙ (ap (λ (d : Day). written o (day_lines r.sheet.units d)) c.day_of.ensures
           ∙ (ap (λ (a : ReadAnswer). written o (lines_by g.text.now r.sheet a)) (sym c.in-Read.is)
           ∙ (ap (λ (x : SheetRead). written o (lines_by g.text.now x.sheet x.answer)) c.read_sheet-read.ensures
-          ∙ written_filled g.out.now (statement_of g.text.now)))); upper_bound = c.put_day.ensures.upper_bound }
+          ∙ written_filled g.out.now (statement_of g.text.now))));
+      upper_bound = c.put_day.ensures.upper_bound;
+    }
 
 pub returns-in-Refused : goal.returns-in-Refused
 unfolding statement_of
 returns-in-Refused c =
     let g = c.args in
     let o = output g.out.now 0 in
-    let r = c.read_sheet-read.result in record { result_after = c.put_refusal.ensures.result_after
+    let r = c.read_sheet-read.result in record {
+      result_after = c.put_refusal.ensures.result_after
           ∙ (ap (λ (n : ℕ). written o (refusal_line n)) c.text_number.ensures
           ∙ (ap (λ (a : ReadAnswer). written o (lines_by g.text.now r.sheet a)) (sym c.in-Refused.is)
           ∙ (ap (λ (x : SheetRead). written o (lines_by g.text.now x.sheet x.answer)) c.read_sheet-read.ensures
-          ∙ written_filled g.out.now (statement_of g.text.now)))); upper_bound = omega (arith, c.put_refusal.ensures.upper_bound) }
+          ∙ written_filled g.out.now (statement_of g.text.now))));
+      upper_bound = omega (arith, c.put_refusal.ensures.upper_bound);
+    }

@@ -32,5 +32,8 @@ loop-e-preserved c =
 pub returns : goal.returns
 returns c =
     let g = c.args in
-    let all : c.loop-e.e ≡ 192 = omega (arith, c.loop-e-test.false) in record { result_after = c.loop-e.invariant.1.0
-          ∙ (ap (λ (n : ℕ). written (output g.out.now g.at) (joined n (entry_lines g.units g.book))) all ∙ ap (written (output g.out.now g.at)) (all_entries g.units g.book)); upper_bound = omega (arith, c.loop-e.invariant.1.1) }
+    let all : c.loop-e.e ≡ 192 = omega (arith, c.loop-e-test.false) in record {
+      result_after = c.loop-e.invariant.1.0
+          ∙ (ap (λ (n : ℕ). written (output g.out.now g.at) (joined n (entry_lines g.units g.book))) all ∙ ap (written (output g.out.now g.at)) (all_entries g.units g.book));
+      upper_bound = omega (arith, c.loop-e.invariant.1.1);
+    }
