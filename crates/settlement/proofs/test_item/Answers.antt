@@ -49,7 +49,7 @@ owed-requires c =
 
 pub returns-then-is_charged : goal.returns-then-is_charged
 unfolding test_item
-returns-then-is_charged c = rw (tested (goal.at.returns-then-is_charged c).After-is_charged ∙ c.if-is_charged.true) (back _ c.owed.type-inv ∙ (c.owed.ensures ∙ ap owed (charge (goal.at.returns-then-is_charged c).After-charge_of)))
+returns-then-is_charged c = rw (tested (goal.at.returns-then-is_charged c).After-is_charged ∙ c.if-is_charged.true) (back _ c.owed.type_inv ∙ (c.owed.ensures ∙ ap owed (charge (goal.at.returns-then-is_charged c).After-charge_of)))
 
 pub returns : goal.returns
 unfolding test_item
