@@ -37,7 +37,7 @@ use Rattle.settlement.specs.Charge.{ChargeNear}
 use Rattle.settlement.specs.Hour.{no_amounts, past_amounts, amount_at, energy_item, availability_item, refund_item, test_item, drawn_at, amounts_of, plant_of, amounts_at, hour_result, hour_is}
 use Rattle.terms.specs.Terms.{rates_of}
 use Rattle.settlement.specs.Ranges.{HourRead, HourReady}
-use Rattle.settlement.proofs.Ready.{own_at, hour_offer, plant_holds, hour_most, sheet_unit_in, rates_ready, drawn_ready, unit_ready}
+use Rattle.settlement.proofs.Ready.{field_own, hour_offer, plant_holds, hour_most, sheet_unit_in, rates_ready, drawn_ready, unit_ready}
 use Rattle.settlement.proofs.Sizes.{most, none_most, unit_most, test_near}
 
 module _ (sheet : Sheet) (r : Record) (commitment : List HubKwh) where
@@ -85,7 +85,7 @@ module _ (sheet : Sheet) (r : Record) (commitment : List HubKwh) where
 
   member_amounts : (k : ℕ) → member_at sheet.units k ≡ true
       → get_or (hour_result sheet r commitment).amounts k past_amounts
-      ≡ amounts_of (rates_of sheet r.hour) (own_at sheet k) (hour_offer sheet r k) (get_or commitment k (record { 0 = 0 })) (record_unit r k)
+      ≡ amounts_of (rates_of sheet r.hour) (field_own sheet k) (hour_offer sheet r k) (get_or commitment k (record { 0 = 0 })) (record_unit r k)
       (get_or (hour_result sheet r commitment).energy k (record { 0 = 0 })) (drawn_at sheet r k)
   unfolding amounts_at
   member_amounts k m = amounts_at_lem k (place_lt sheet.units k m) ∙ rw m
@@ -93,7 +93,7 @@ module _ (sheet : Sheet) (r : Record) (commitment : List HubKwh) where
   -- the five items of a unit of the plant, by name
   pub amount_is : (k : ℕ) → member_at sheet.units k ≡ true
       → let rates = rates_of sheet r.hour in
-      let own = own_at sheet k in
+      let own = field_own sheet k in
       let u = record_unit r k in
       let its = get_or commitment k (record { 0 = 0 }) in
       let energy = get_or (hour_result sheet r commitment).energy k (record { 0 = 0 }) in
@@ -149,7 +149,7 @@ module _ (sheet : Sheet) (r : Record) (commitment : List HubKwh) where
         by true m =
             subst of (sym (member_amounts k m))
             (rw energy_is
-            (unit_most (rates_of sheet r.hour) (own_at sheet k) (hour_offer sheet r k) (get_or commitment k (record { 0 = 0 })) (record_unit r k)
+            (unit_most (rates_of sheet r.hour) (field_own sheet k) (hour_offer sheet r k) (get_or commitment k (record { 0 = 0 })) (record_unit r k)
             (get_or (energies r.net r.reverse (plant_of sheet r commitment)) k (record { 0 = 0 })) (rates_ready sheet r h.read)
             (unit_ready sheet r commitment h k m) (drawn_at sheet r k) (drawn_at_most k) i))
         by false m = subst of (sym (amounts_none k l m)) (none_most i)
@@ -161,9 +161,9 @@ module _ (sheet : Sheet) (r : Record) (commitment : List HubKwh) where
     charge_near_exact k m t =
         let e = ap (λ s. nat_abs (get_or s 3 (pos 0))) (amount_is k m) in
         let u = record_unit r k in
-        let d = deviations_of (own_at sheet k) u in
+        let d = deviations_of (field_own sheet k) u in
         let q : ◌≡◌ {A = NetKwh} (record { 0 = written_q d u.repair }) (counted_deviation d u.repair) = λ i. record { 0 = sym (counted_is d u.repair) i } in
         rw (e, energy_is, sym (weighted_is d u.repair))
-        (test_near (rates_of sheet r.hour) (own_at sheet k) (hour_offer sheet r k) (get_or commitment k (record { 0 = 0 })) (record_unit r k)
+        (test_near (rates_of sheet r.hour) (field_own sheet k) (hour_offer sheet r k) (get_or commitment k (record { 0 = 0 })) (record_unit r k)
         (get_or (energies r.net r.reverse (plant_of sheet r commitment)) k (record { 0 = 0 })) (rates_ready sheet r h.read)
         (unit_ready sheet r commitment h k m) (rw (energy_is, q) at t))
