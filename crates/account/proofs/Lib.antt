@@ -1,4 +1,5 @@
-pub mod AsItComes
-pub mod FirstRefused
-pub mod DayCarried
-pub mod Printed
+pub mod Promised
+pub mod Reading
+pub mod Turned
+pub mod Underway
+pub mod DayEnds

@@ -1,76 +1,147 @@
 -- The day's text behind its sheet, each call carried out as it comes (01, Program and marked figures).
-use Rattle.std.specs.Prelude.{◌≡◌, ℕ, zero, suc, ◌/◌, cond, List, [], ◌∷◌, map, eqb, length}
+use Rattle.std.specs.Prelude.{ℕ, zero, suc, ◌-◌, cond, List, [], ◌∷◌, eqb, ltb, length, drop, get_or, replicate}
+use Rattle.text.specs.Text.{before, has, value_part, key_is}
+use Rattle.text.specs.Rows.{word, limits}
+use Rattle.values.specs.Values.{value_of}
+use Rattle.text.specs.declared.Row.{Row}
+use Rattle.text.specs.declared.Line.{Line}
+use Rattle.lines.specs.Lines.{place_after}
 use Rattle.sheet.specs.declared.Sheet.{Sheet}
-use Rattle.ledger.specs.declared.Asked.{Asked}
-use Rattle.ledger.specs.Ledger.{Call, Reply}
-use Rattle.ledger.specs.Calls.{State, Moved, carried_out, request_of, begun}
-use Rattle.ledger.specs.Requests.{call_for}
+use Rattle.state.specs.declared.Book.{Book}
 use Rattle.state.specs.Book.{empty_book}
-use Rattle.batch.specs.Run.{answer_numbers, replies_in, turns_of, Running, ran_all}
-use Rattle.series.specs.Stands.{start_on}
-use Rattle.own_journal.specs.Own.{own_list}
-use Rattle.day_calls.specs.declared.Next.{Next}
-use Rattle.day_calls.specs.declared.Next.TheVariants.{Ends as TextEnds, Bad, Take, Settle}
-use Rattle.day_calls.specs.DayCalls.{next_at}
+use Rattle.postings.specs.declared.Posting.{Posting}
+use Rattle.postings.specs.Journal.{no_posting}
+use Rattle.ledger.specs.declared.Asked.{Asked}
+use Rattle.ledger.specs.declared.Answer.{Answer}
+use Rattle.ledger.specs.declared.Answer.TheVariants.{Accepted, Posted, Refused}
+use Rattle.ledger.specs.declared.Outcome.{Outcome}
+use Rattle.ledger.specs.Numbers.{refusal_number}
+use Rattle.ledger.specs.Ledger.{Call}
+use Rattle.ledger.specs.Calls.{State}
+use Rattle.ledger.specs.Requests.{call_for, none_asked}
+use Rattle.single.specs.Journal.{Performed, performed}
+use Rattle.account.specs.declared.Next.{Next}
+use Rattle.account.specs.declared.Next.TheVariants.{Ends, Bad, Asks}
+use Rattle.account.specs.declared.Due.{Due}
 use Rattle.account.specs.declared.Day.{Day}
 
--- how a day ends: with a refusal's number, or 0 at the text's end; and what its calls leave
-pub record DayEnd : Type 0 where
-  pub refusal : ℕ
-  pub state : State
+-- "`take=hour:unit:kWh`"; "A take without three numbers of at most 9 digits is 2"
+abbrev pub most_taken : ℕ
+most_taken = 999999999
 
-abbrev pub ends_with : (refusal : ℕ) → State → DayEnd
-ends_with refusal st = record { refusal = refusal; state = st }
+unfoldable pub take_row : Row
+take_row =
+    record {
+      key = word "take";
+      word = word "";
+      blank = 0;
+      order = 0;
+      parts = 3;
+      most = 3;
+      low = limits 0 0 0 0;
+      high = limits most_taken most_taken most_taken 0;
+    }
 
--- a call in numbers, with the day's whole text
-abbrev pub moved_by : Sheet → List ℕ → State → Asked → Moved
-moved_by s text st a = carried_out s st (request_of s (call_for text a))
+-- a take, and a settle with the record that begins at a place of the whole text, as calls in numbers
+abbrev pub take_asked : (hour unit kwh : ℕ) → Asked
+take_asked hour unit kwh = record { kind = 1; hour = hour; unit = unit; to = 0; kwh = kwh; begin = 0; end = 0; start = 0 }
 
--- "on the first refusal it prints only `refused=` and the number": a refused call ends the day
-abbrev pub day_after : (State → DayEnd) → Moved → DayEnd
-day_after further m = cond (eqb m.reply.number 0) (further m.state) (ends_with m.reply.number m.state)
+abbrev pub settle_asked : List ℕ → (at : ℕ) → Asked
+settle_asked text at = record { kind = 4; hour = 0; unit = 0; to = 0; kwh = 0; begin = 0; end = length text; start = at }
 
--- "each carried out as it comes": after a take comes what stands behind its line, after a record what stands at the text place that its call answers
-abbrev pub day_by : Sheet → List ℕ → (ℕ → State → DayEnd) → State → Next → DayEnd
-day_by s text further st TextEnds = ends_with 0 st
-day_by s text further st (Bad number) = ends_with number st
-day_by s text further st (Take a after) = day_after (further after) (moved_by s text st a)
-day_by s text further st (Settle a) = day_after (further (moved_by s text st a).reply.place) (moved_by s text st a)
+-- the take of a line, with the place after it
+abbrev pub take_of : Line → (after : ℕ) → Next
+take_of l after =
+    cond (eqb l.code 0) (Asks (take_asked (get_or l.number 0 0) (get_or l.number 1 0) (get_or l.number 2 0)) after) (Bad l.code)
 
--- from a place on. Each call takes a byte of the text at least, so no more come than `left`: `day_is` (proofs/AsItComes.antt) says it without a count
-unfoldable pub day_from : Sheet → List ℕ → (left at : ℕ) → State → DayEnd
-day_from s text zero at st = ends_with 0 st
-day_from s text (suc left) at st = day_by s text (day_from s text left) st (next_at text at)
+-- the settle of the record that begins at a place
+abbrev pub settle_of : List ℕ → (at : ℕ) → Next
+settle_of text at = Asks (settle_asked text at) at
+
+-- the call of a line by its key; "a line of another key" is 1
+abbrev pub line_call : List ℕ → (at : ℕ) → (line : List ℕ) → Next
+line_call text at line =
+    cond (key_is line (word "take")) (take_of (value_of take_row (value_part line)) (place_after text at))
+    (cond (key_is line (word "hour")) (settle_of text at) (Bad 1))
+
+-- "then `take=hour:unit:kWh` lines and hour records in any mixture": what comes at a place of the text. 4 where it "ends inside a line"
+unfoldable pub next_at : List ℕ → (at : ℕ) → Next
+next_at text at =
+    let rest = drop at text in
+    cond (ltb at (length text)) (cond (has 10 rest) (line_call text at (before 10 rest)) (Bad 4)) Ends
+
+-- no call is due: the day has ended, with a refusal's number or 0
+abbrev pub none_due : (refusal : ℕ) → Due
+none_due refusal = record { left = 0; asked = none_asked; after = 0; refusal = refusal }
+
+-- a call is due. Each call takes a byte of the text at least, so no more come than `left`: `none_left` (proofs/DayEnds.antt) says that while none is
+-- left none is due
+abbrev pub due_with : (left : ℕ) → Next → Due
+due_with left Ends = none_due 0
+due_with left (Bad number) = none_due number
+due_with left (Asks a after) = record { left = left - 1; asked = a; after = after; refusal = 0 }
+
+abbrev pub due_at : List ℕ → (at left : ℕ) → Due
+due_at text at left = due_with left (next_at text at)
+
+abbrev pub day_with : (count : ℕ) → Book → Due → Day
+day_with count b x = record { left = x.left; count = count; book = b; asked = x.asked; after = x.after; refusal = x.refusal }
+
+abbrev pub day_at : List ℕ → (at left count : ℕ) → Book → Day
+day_at text at left count b = day_with count b (due_at text at left)
+
+-- after a call: a take is followed by the next line, a record by the place that the call answers; "the first refusal" ends the day
+abbrev pub answered_by : List ℕ → (after left place : ℕ) → Answer → Due
+answered_by text after left place Accepted = due_at text after left
+answered_by text after left place (Posted n) = due_at text place left
+answered_by text after left place (Refused r) = none_due (refusal_number r)
+
+unfoldable pub day_after : List ℕ → Day → Outcome → Day
+day_after text d o = day_with o.count o.book (answered_by text d.after d.left o.place o.answer)
+
+-- the day, and the list of postings
+pub record Running : Type 0 where
+  pub list : List Posting
+  pub day : Day
+
+-- "each carried out as it comes"
+abbrev pub performed_in : Sheet → List ℕ → Running → Performed
+performed_in s text r = performed r.list r.day.count s r.day.book (call_for text r.day.asked)
+
+unfoldable pub turned : Sheet → List ℕ → Running → Running
+turned s text r =
+    let p = performed_in s text r in
+    record { list = p.list; day = day_after text r.day p.outcome }
+
+-- call after call, until the day has ended
+unfoldable pub ran_to : Sheet → List ℕ → (left : ℕ) → Running → Running
+ran_to s text zero r = r
+ran_to s text (suc left) r =
+    let t = turned s text r in
+    let further = ran_to s text left t in
+    cond (eqb t.day.left 0) t further
+
+abbrev pub ran_out : Sheet → List ℕ → Running → Running
+ran_out s text r = ran_to s text r.day.left r
+
+-- the calls carried out, in their order
+unfoldable pub calls_to : Sheet → List ℕ → (left : ℕ) → Running → List Call
+calls_to s text zero r = []
+calls_to s text (suc left) r =
+    let t = turned s text r in
+    let further = calls_to s text left t in
+    call_for text r.day.asked ∷ cond (eqb t.day.left 0) [] further
+
+-- the book, the count and the journal
+abbrev pub state_of : Running → State
+state_of r = record { book = r.day.book; count = r.day.count; journal = r.list }
 
 -- "over a list of 2,000 places", on the empty book
-abbrev pub day_of : Sheet → List ℕ → (at : ℕ) → DayEnd
-day_of s text at = day_from s text (suc (length text)) at (begun own_list)
+unfoldable pub begun : List ℕ → (at : ℕ) → Running
+begun text at = record { list = replicate 2000 no_posting; day = day_at text at (suc (length text)) 0 empty_book }
 
--- the same by the list of the day's calls, all carried out: the first refused answer's number, else the list's ending
-unfoldable pub first_refused : List Reply → ℕ
-first_refused [] = 0
-first_refused (r ∷ rs) = cond (eqb r.number 0) (first_refused rs) r.number
+abbrev pub day_from : Sheet → List ℕ → (at : ℕ) → Day
+day_from s text at = (ran_out s text (begun text at)).day
 
-abbrev pub refusal_or : (ending refusal : ℕ) → ℕ
-refusal_or ending refusal = cond (eqb refusal 0) ending refusal
-
-abbrev pub calls_of : List ℕ → List Asked → List Call
-calls_of text l = map (call_for text) l
-
--- a list of calls in numbers over the day's journal, from the empty book on
-abbrev pub ran_over : Sheet → (calls text answers : List ℕ) → Running
-ran_over s calls text answers = ran_all s calls text (start_on own_list answers 0 empty_book) (turns_of (length calls) (length answers))
-
--- what such a list comes to, by its answers in numbers
-pub record Comes (s : Sheet) (calls text answers : List ℕ) (ending : ℕ) (r : Day) : Type 0 where
-  pub refusal_by_lem : r.refusal ≡ refusal_or ending (first_refused (replies_in (ran_over s calls text answers).answers (length (ran_over s calls text answers).answers / answer_numbers)))
-  pub book_by : r.book ≡ (ran_over s calls text answers).ran.book
-
--- how the code's day ends: its refusal is that of the day, and where there is none its book is
-pub record Ends (d : DayEnd) (r : Day) : Type 0 where
-  pub refusal_is : r.refusal ≡ d.refusal
-  pub book_is : d.refusal ≡ 0 → r.book ≡ d.state.book
-
--- "A text is at most 65,536 bytes."
-abbrev pub most_text : ℕ
-most_text = 65536
+abbrev pub day_calls : Sheet → List ℕ → (at : ℕ) → List Call
+day_calls s text at = calls_to s text (begun text at).day.left (begun text at)

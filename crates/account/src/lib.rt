@@ -1,99 +1,257 @@
-// The statement of a day's text: the sheet is read, then the list of the day's calls, which is carried out over a journal of 2,000 places; printed are the
-// settled hours, or the first refusal.
+// The day's account: from the bytes of day.txt to the bytes printed. The sheet is read, then takes and hour records are carried out as they
+// come, over a journal of 2,000 places.
 #![tactic(auto)]
-ghost use Rattle.std.specs.Prelude.{◌≡◌, ◌/◌, ◌≤◌, length};
+
+ghost use Rattle.std.specs.Prelude.{◌≡◌, true, ◌-◌, ◌≤◌};
+ghost use Rattle.sheet.specs.Ranges.{sheet_holds};
+ghost use Rattle.ledger.specs.Requests.{none_asked};
 ghost use Rattle.decimal.specs.Output.{output, written, filled};
 ghost use Rattle.listing.specs.Listing.{most_bytes};
-ghost use Rattle.batch.specs.Run.{replies_in, answer_numbers};
-ghost use Rattle.account.specs.Day.{first_refused, refusal_or, most_text, ran_over, day_of, Comes, Ends};
+ghost use Rattle.account.specs.Day.{take_row, take_of, settle_of, next_at, none_due, due_at, answered_by, day_with, day_from};
 ghost use Rattle.account.specs.Statement.{day_lines, statement_of};
 
-use batch::Ran;
+use ledger::{Answer, Asked};
 use lines::ReadAnswer;
 use sheet::Sheet;
 use state::Book;
+use text::{Line, Row};
 
-// How a day ends: with a refusal's number, or 0; and the book after its calls.
+// What comes at a place of the text: its end, a line that is refused with a number, or a call with the place after its line.
+#[derive(Clone, Copy)]
+pub enum Next {
+    Ends,
+    Bad(u64),
+    Asks(Asked, usize),
+}
+
+// What is due in the day. While calls are left, one is asked for, and `after` is the place after its line; otherwise the day has ended, and
+// the refusal is its number or 0.
+#[derive(Clone, Copy)]
+pub struct Due {
+    pub left: usize,
+    pub asked: Asked,
+    pub after: usize,
+    pub refusal: u64,
+}
+
+// A day, with what is due in it.
 #[derive(Clone, Copy)]
 pub struct Day {
-    pub refusal: u64,
+    pub left: usize,
+    pub count: u64,
     pub book: Book,
+    pub asked: Asked,
+    pub after: usize,
+    pub refusal: u64,
 }
 
-// A list of calls on the empty book, over a journal of 2,000 places of its own.
-fn carry_out_list(sheet: Sheet, calls: &[u64], text: &[u8], answers: &mut [u64]) -> Ran
-    ensures value { result ≡ (ran_over sheet calls.now text.now answers.old).ran }
-    ensures answers_after { answers.new ≡ (ran_over sheet calls.now text.now answers.old).answers }
+fn take_row() -> Row
+    ensures { result ≡ take_row }
 {
-    let book = state::empty_book();
-    let carried = own_journal::run_on(
-        own_journal::own_list(),
-        0,
-        sheet,
-        book,
-        calls,
-        text,
-        answers,
-    );
-    carried.ran
-}
-
-// The number of the first refused answer, 0 where none is.
-fn first_refused(answers: &[u64]) -> u64
-    ensures { result ≡ first_refused (replies_in answers.now (length answers.now / answer_numbers)) }
-{
-    let n = answers.len() / 4;
-    let mut i: usize = 0;
-    while i < n {
-        if answers[4 * i] != 0 {
-            return answers[4 * i];
-        }
-        i += 1;
+    Row {
+        key: *b"take======",
+        word: *b"==========",
+        blank: 0,
+        order: 0,
+        parts: 3,
+        most: 3,
+        low: [0, 0, 0, 0],
+        high: [999999999, 999999999, 999999999, 0],
     }
-    0
 }
 
-fn refusal_or(ending: u64, refusal: u64) -> u64
-    ensures { result ≡ refusal_or ending refusal }
+fn no_call() -> Asked
+    ensures { result ≡ none_asked }
 {
-    if refusal == 0 {
-        return ending;
+    Asked {
+        kind: 0,
+        hour: 0,
+        unit: 0,
+        to: 0,
+        kwh: 0,
+        begin: 0,
+        end: 0,
+        start: 0,
     }
-    refusal
 }
 
-// What the day comes to by its list of calls, with a place for each answer, and the list's ending.
-fn day_by(sheet: Sheet, calls: &[u64], text: &[u8], answers: &mut [u64], ending: u64) -> Day
-    ensures { Comes sheet calls.now text.now answers.old ending result }
+// The take of a line's numbers.
+fn take_of(line: Line, after: usize) -> Next
+    ensures { result ≡ take_of line after }
 {
-    let ran = carry_out_list(sheet, calls, text, answers);
-    let book = ran.book;
+    if line.code == 0 {
+        let number = line.number;
+        return Next::Asks(
+            Asked {
+                kind: 1,
+                hour: number[0],
+                unit: number[1],
+                to: 0,
+                kwh: number[2],
+                begin: 0,
+                end: 0,
+                start: 0,
+            },
+            after,
+        );
+    }
+    Next::Bad(line.code)
+}
+
+// The settle of the record that begins at a place.
+fn settle_at(text: &[u8], at: usize) -> Next
+    ensures { result ≡ settle_of text.now at }
+{
+    Next::Asks(
+        Asked {
+            kind: 4,
+            hour: 0,
+            unit: 0,
+            to: 0,
+            kwh: 0,
+            begin: 0,
+            end: text.len() as u64,
+            start: at as u64,
+        },
+        at,
+    )
+}
+
+// What comes at a place of the text.
+fn next_at(text: &[u8], at: usize) -> Next
+    ensures { result ≡ next_at text.now at }
+{
+    if text.len() <= at {
+        return Next::Ends;
+    }
+    let e = text::find(text, at, b'\n');
+    if text.len() <= e {
+        return Next::Bad(4);
+    }
+    let line = &text[at..e];
+    if text::key_is(line, *b"take======") {
+        let l = values::read_value(text::value_of(line), take_row());
+        return take_of(l, e + 1);
+    }
+    if text::key_is(line, *b"hour======") {
+        return settle_at(text, at);
+    }
+    Next::Bad(1)
+}
+
+fn none_due(refusal: u64) -> Due
+    ensures { result ≡ none_due refusal }
+{
+    Due {
+        left: 0,
+        asked: no_call(),
+        after: 0,
+        refusal: refusal,
+    }
+}
+
+fn one_less(n: usize) -> usize
+    ensures { result ≡ n - 1 }
+{
+    if n == 0 {
+        return 0;
+    }
+    n - 1
+}
+
+// What is due with what comes at a place.
+fn due_at(text: &[u8], at: usize, left: usize) -> Due
+    ensures { result ≡ due_at text.now at left }
+{
+    let next = next_at(text, at);
+    match next {
+        Next::Ends => none_due(0),
+        Next::Bad(number) => none_due(number),
+        Next::Asks(asked, after) => Due {
+            left: one_less(left),
+            asked: asked,
+            after: after,
+            refusal: 0,
+        },
+    }
+}
+
+// What is due after a call, by its answer.
+fn due_after(text: &[u8], after: usize, left: usize, place: u64, answer: Answer) -> Due
+    ensures { result ≡ answered_by text.now after left place answer }
+{
+    match answer {
+        Answer::Accepted => due_at(text, after, left),
+        Answer::Posted(_) => due_at(text, place as usize, left),
+        Answer::Refused(refusal) => none_due(decisions::refusal_number(refusal)),
+    }
+}
+
+// The day with what is due in it.
+fn day_with(count: u64, book: Book, due: Due) -> Day
+    ensures { result ≡ day_with count book due }
+{
+    let asked = due.asked;
     Day {
-        refusal: refusal_or(ending, first_refused(answers)),
+        left: due.left,
+        count: count,
         book: book,
+        asked: asked,
+        after: due.after,
+        refusal: due.refusal,
     }
 }
 
-// The day behind a sheet, from a place of the text on. A text of 65,536 bytes has no more than 10,922 calls.
-fn day_of(sheet: Sheet, text: &[u8], from: usize) -> Day
-    requires { length text.now ≤ most_text }
-    ensures { Ends (day_of sheet text.now from) result }
+// The day behind a sheet that passes 9, over a journal of 2,000 places: each call is carried out as it comes, on the numbers of the book. What is posted is
+// not printed, so the number of postings alone is kept.
+fn day_of(sheet: Sheet, text: &[u8], at: usize) -> Day
+    requires { sheet_holds sheet ≡ true }
+    ensures { result ≡ day_from sheet text.now at }
 {
-    let mut calls = [0u64; 87376];
-    let listed = day_calls::list_calls(text, from, &mut calls);
-    let mut answers = [0u64; 43688];
-    let end = 4 * listed.calls;
-    day_by(sheet, &calls, text, &mut answers[..end], listed.ending)
+    let terms = terms::terms_of(sheet);
+    let offers = numbers::offer_numbers(sheet);
+    let mut commitment = [0u64; 192];
+    let mut mark = [0u64; 24];
+    let mut energy = [0u64; 192];
+    let mut amounts = [0i64; 960];
+    let mut rows = [0i64; 40];
+    let mut count: u64 = 0;
+    let mut due = due_at(text, at, text.len() + 1);
+    while 0 < due.left {
+        let call = decisions::decode(due.asked);
+        let done = engine::carry_out(
+            &mut commitment,
+            &mut mark,
+            &mut energy,
+            &mut amounts,
+            &mut rows,
+            0,
+            &offers,
+            terms,
+            text,
+            call,
+            count,
+            2000,
+        );
+        let answer = done.answer;
+        count += decisions::posted_of(answer);
+        due = due_after(text, due.after, due.left, done.place, answer);
+    }
+    day_with(
+        count,
+        numbers::book_by(&commitment, mark, &energy, &amounts),
+        due,
+    )
 }
 
 // What is printed of a day.
 fn put_day(out: &mut [u8], units: u64, day: Day) -> usize
-    ensures result_after { output out.new result ≡ written (output out.old 0) (day_lines units day.refusal day.book) }
+    ensures result_after { output out.new result ≡ written (output out.old 0) (day_lines units day) }
     ensures upper_bound { result ≤ most_bytes }
 {
     let book = day.book;
     if day.refusal == 0 {
-        return listing::put_settled(out, 0, b"", units, book);
+        return listing::put_settled(out, 0, units, book);
     }
     listing::put_refusal(out, 0, day.refusal)
 }

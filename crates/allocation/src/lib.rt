@@ -1,5 +1,6 @@
 // The plant's net hub energy allocated to its units: ceilings, and the fill by rising price.
 #![tactic(auto)]
+
 ghost use Rattle.std.specs.Prelude.{◌≡◌, true, cond, ℕ, ◌+◌, ◌≤◌, ◌<◌, eqb, ltb, length, get_or};
 ghost use Rattle.finite.specs.Finite.{sum, tabulate};
 ghost use Rattle.energy.specs.Energy.{hub_of};

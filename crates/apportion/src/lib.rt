@@ -1,5 +1,6 @@
 // Largest remainder: a total divided among any number of parts by their weights.
 #![tactic(auto)]
+
 ghost use Rattle.std.specs.Prelude.{◌≡◌, ◌*◌, ◌^◌, ◌<◌, length, replicate};
 ghost use Rattle.finite.specs.Finite.{tabulate};
 ghost use Rattle.apportion.specs.Shares.{remainder_left, sum_of, quotient, remainder, shares as the_shares, largest as the_largest, add_ones, Fits, Due};

@@ -1,5 +1,6 @@
 // A batch of calls of a list: carried out one after the other on the book's numbers, with what they post in rows.
 #![tactic(auto)]
+
 ghost use Rattle.std.specs.Prelude.{◌≡◌, ◌&&◌, ltb};
 ghost use Rattle.engine.specs.Table.{table};
 ghost use Rattle.batch.specs.Run.{turns_of, replied};

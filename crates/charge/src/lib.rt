@@ -1,5 +1,6 @@
 // Item 4, the test: the counted and the weighted deviation, whether it is charged, and the charge.
 #![tactic(auto)]
+
 ghost use Rattle.std.specs.Prelude.{◌≡◌, ◌≤◌, ◌<◌, min};
 ghost use Rattle.formulas.specs.Items.{kinds};
 ghost use Rattle.charge.specs.Test.{Bounded, kind_weight, counted_at, counted_part, counted_deviation, is_charged, weighted as the_weighted, base_charge, growth as the_growth, hours_counted, charge_of, NearExact};

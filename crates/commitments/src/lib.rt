@@ -1,5 +1,6 @@
 // A take, release or move on the lent commitments: tested, and stored where it is accepted.
 #![tactic(auto)]
+
 ghost use Rattle.std.specs.Prelude.{◌≡◌, ◌*◌, length};
 ghost use Rattle.state.specs.Sizes.{hours, entries};
 ghost use Rattle.numbers.specs.Offers.{offer_size};

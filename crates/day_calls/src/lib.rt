@@ -1,5 +1,6 @@
 // A day's text behind its sheet, read into a list of calls in numbers and an ending: takes and hour records in any mixture.
 #![tactic(auto)]
+
 ghost use Rattle.std.specs.Prelude.{◌≡◌, true, ◌&&◌, ltb, ◌/◌, ◌≤◌, ◌<◌, length};
 ghost use Rattle.ledger.specs.Requests.{call_numbers, none_asked};
 ghost use Rattle.day_calls.specs.DayCalls.{take_row, take_of, settle_asked, next_at, end_step, call_step, step_at, line_bytes, stored_at, Lists};

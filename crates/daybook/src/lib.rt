@@ -1,6 +1,7 @@
 // A list of calls carried out and printed: from the bytes of calls.txt to the bytes that `replay` writes. Each call is carried out as it comes,
 // over a list of 2,000 places, and printed with its result; behind the last stand the commitments, the settled hours and the totals.
 #![tactic(auto)]
+
 ghost use Rattle.std.specs.Prelude.{◌≡◌, ◌≤◌, length};
 ghost use Rattle.decimal.specs.Output.{output, written};
 ghost use Rattle.daybook.specs.Turns.{total_asked, asked_next, listed_after, first_tables, turn_text, own_list};

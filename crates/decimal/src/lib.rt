@@ -1,6 +1,7 @@
 // Numbers and bytes written into a lent buffer. Each function writes from a place on and gives the place after what it wrote; bytes
 // for which the buffer has no room are left out.
 #![tactic(auto)]
+
 ghost use Rattle.std.specs.Prelude.{◌≡◌, ◌+◌, ◌<◌, nat_abs};
 ghost use Rattle.decimal.specs.Output.{output, with_byte, written};
 ghost use Rattle.decimal.specs.Decimal.{two_digits, digits, signed};

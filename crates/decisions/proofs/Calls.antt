@@ -1,7 +1,7 @@
 -- A call decoded once is the ledger's call of its numbers, kind by kind.
 -- Assumes nothing.
 use mathlib.Core.Path.{◌≡◌, refl}
-use mathlib.Core.Bool.{Bool, true, false, cond, ◌||◌, true≢false, false≢true}
+use mathlib.Core.Bool.{Bool, true, false, cond}
 use mathlib.Core.List.{List}
 use Prim.Native.Nat.{ℕ}
 use lib.Dec.{eqb}
@@ -13,36 +13,7 @@ use Rattle.decisions.specs.declared.CommitmentKind.TheVariants.{Take, Release, M
 use Rattle.decisions.specs.declared.CommitmentCall.{CommitmentCall}
 use Rattle.decisions.specs.declared.Call.{Call}
 use Rattle.decisions.specs.declared.Call.TheVariants.{Commitment, Record, Void}
-use Rattle.decisions.specs.Calls.{commitment_call, record_call, kind_of, decoded, commitment_of, record_of, call_of, call_start}
-
-module _ (a : Asked) where
-  -- the kinds that change no commitment
-  abbrev pub others : Call
-  others = cond (eqb a.kind 4) (record_call false a) (cond (eqb a.kind 5) (record_call true a) (cond (eqb a.kind 6) (Void a.hour) (Void 0)))
-
-  -- the three that do, in the order of their numbers, before the others
-  abbrev chosen : (k1 k2 k3 : Bool) → Call
-  chosen k1 k2 k3 = cond k1 (commitment_call Take a) (cond k2 (commitment_call Release a) (cond k3 (commitment_call Move a) others))
-
-  pub commitment_decoded : (eqb a.kind 1 || (eqb a.kind 2 || eqb a.kind 3)) ≡ true → commitment_call (kind_of a.kind) a ≡ decoded a
-  unfolding kind_of decoded
-  commitment_decoded = by (eqb a.kind 1) (eqb a.kind 2) (eqb a.kind 3)
-    where
-      by : (k1 k2 k3 : Bool) → (k1 || (k2 || k3)) ≡ true → commitment_call (cond k1 Take (cond k2 Release Move)) a ≡ chosen k1 k2 k3
-      by true k2 k3 e = refl
-      by false true k3 e = refl
-      by false false true e = refl
-      by false false false e = absurd (false≢true e)
-
-  pub other_decoded : (eqb a.kind 1 || (eqb a.kind 2 || eqb a.kind 3)) ≡ false → others ≡ decoded a
-  unfolding decoded
-  other_decoded = by (eqb a.kind 1) (eqb a.kind 2) (eqb a.kind 3)
-    where
-      by : (k1 k2 k3 : Bool) → (k1 || (k2 || k3)) ≡ false → others ≡ chosen k1 k2 k3
-      by true k2 k3 e = absurd (true≢false e)
-      by false true k3 e = absurd (true≢false e)
-      by false false true e = absurd (true≢false e)
-      by false false false e = refl
+use Rattle.decisions.specs.Calls.{commitment_call, record_call, decoded, commitment_of, record_of, call_of, call_start}
 
 module _ (text : List ℕ) where
   pub decoded_is : (a : Asked) → call_of text (decoded a) ≡ call_for text a

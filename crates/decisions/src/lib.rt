@@ -1,14 +1,15 @@
 // What each call is decided to be, by value: a call decoded from its numbers, a change of commitments tested, an hour settled, restated or voided
 // by what the sheet and the book have of it, and the numbers of answers. The crate `ledger` says what is right.
 #![tactic(auto)]
-ghost use Rattle.std.specs.Prelude.{◌≡◌, true, ◌&&◌, ◌||◌, ltb, eqb, ℕ, ◌+◌, ◌<◌, min};
+
+ghost use Rattle.std.specs.Prelude.{◌≡◌, true, false, ◌&&◌, ◌||◌, ltb, eqb, ℕ, ◌+◌, ◌≤◌, ◌<◌, min};
 ghost use Rattle.lines.specs.declared.ReadAnswer.TheVariants.{Read};
 ghost use Rattle.settlement.specs.Ranges.{HourDue};
 ghost use Rattle.ledger.specs.Calls.{verdict, bad_hour, unknown_units, short_of, book_fits};
 ghost use Rattle.ledger.specs.Numbers.{refusal_number, refusal_line, number_of, line_of, posted_of};
 ghost use Rattle.ledger.specs.Requests.{part_of, asked_at};
-ghost use Rattle.decisions.specs.Calls.{commitment_call, record_call, kind_of, decoded, call_start};
-ghost use Rattle.decisions.specs.Changes.{hour_index, entry_index, change_of, change_tests};
+ghost use Rattle.decisions.specs.Calls.{commitment_call, record_call, decoded, call_start};
+ghost use Rattle.decisions.specs.Changes.{hour_index, entry_index, take_change, release_change, move_change, change_of, change_tests};
 ghost use Rattle.decisions.specs.Hours.{hour_refused, hour_changed, void_decided, standing_row, record_decided};
 
 use energy::HubKwh;
@@ -57,7 +58,7 @@ pub enum Call {
 }
 
 // A take, release or move: the unit `from` gives `out` and the unit `to` gets `into`. In a take and in a release both are the same unit, and one
-// of the two amounts is 0. `same` says that it is a move from a unit to itself.
+// of the two amounts is 0. `moves` says that it is a move, whose units must differ.
 #[derive(Clone, Copy)]
 pub struct CommitmentChange {
     pub hour: u64,
@@ -65,7 +66,7 @@ pub struct CommitmentChange {
     pub to: u64,
     pub out: HubKwh,
     pub into: HubKwh,
-    pub same: bool,
+    pub moves: bool,
 }
 
 // What a settle, restate or void comes to: the answer and the text place, and, where it is accepted, the hour, and its mark, energies and amounts
@@ -132,38 +133,19 @@ fn record_call(again: bool, asked: Asked) -> Call
     })
 }
 
-// In these three functions alone the kinds have numbers: 1 take, 2 release, 3 move, 4 settle, 5 restate, 6 void; another number is a void of hour 0. The
-// three that change commitments are one jump in `decode`; which of them it is, is a choice without a jump.
-fn changes_commitments(kind: u64) -> bool
-    ensures { result ≡ (eqb kind 1 || (eqb kind 2 || eqb kind 3)) }
-{
-    if kind == 1 {
-        return true;
-    }
-    if kind == 2 {
-        return true;
-    }
-    kind == 3
-}
-
-fn kind_of(kind: u64) -> CommitmentKind
-    ensures { result ≡ kind_of kind }
-{
-    if kind == 1 {
-        return CommitmentKind::Take;
-    }
-    if kind == 2 {
-        return CommitmentKind::Release;
-    }
-    CommitmentKind::Move
-}
-
+// The one place where the kinds have numbers: 1 take, 2 release, 3 move, 4 settle, 5 restate, 6 void. Another number is a void of hour 0.
 pub fn decode(asked: Asked) -> Call
     ensures { result ≡ decoded asked }
 {
     let kind = asked.kind;
-    if changes_commitments(kind) {
-        return commitment_call(kind_of(kind), asked);
+    if kind == 1 {
+        return commitment_call(CommitmentKind::Take, asked);
+    }
+    if kind == 2 {
+        return commitment_call(CommitmentKind::Release, asked);
+    }
+    if kind == 3 {
+        return commitment_call(CommitmentKind::Move, asked);
     }
     if kind == 4 {
         return record_call(false, asked);
@@ -188,49 +170,42 @@ pub fn start_of(call: Call) -> u64
     }
 }
 
-// What is given, what comes, the unit that gets it, and whether a move's units are the same: each is found by the kind for itself. The compiler makes a
-// choice without a jump of each; one jump by the kind to an arm for each call could not be foreseen in a list in random order.
-fn given_by(call: CommitmentCall) -> HubKwh
-    ensures { result ≡ (change_of call).out }
+fn take_change(hour: u64, unit: u64, kwh: u64) -> CommitmentChange
+    ensures { result ≡ take_change hour unit kwh }
 {
-    let kind = call.kind;
-    match kind {
-        CommitmentKind::Take => HubKwh(0),
-        CommitmentKind::Release => HubKwh(call.kwh),
-        CommitmentKind::Move => HubKwh(call.kwh),
+    CommitmentChange {
+        hour,
+        from: unit,
+        to: unit,
+        out: HubKwh(0),
+        into: HubKwh(kwh),
+        moves: false,
     }
 }
 
-fn got_by(call: CommitmentCall) -> HubKwh
-    ensures { result ≡ (change_of call).into }
+fn release_change(hour: u64, unit: u64, kwh: u64) -> CommitmentChange
+    ensures { result ≡ release_change hour unit kwh }
 {
-    let kind = call.kind;
-    match kind {
-        CommitmentKind::Take => HubKwh(call.kwh),
-        CommitmentKind::Release => HubKwh(0),
-        CommitmentKind::Move => HubKwh(call.kwh),
+    CommitmentChange {
+        hour,
+        from: unit,
+        to: unit,
+        out: HubKwh(kwh),
+        into: HubKwh(0),
+        moves: false,
     }
 }
 
-fn getter(call: CommitmentCall) -> u64
-    ensures { result ≡ (change_of call).to }
+fn move_change(hour: u64, from: u64, to: u64, kwh: u64) -> CommitmentChange
+    ensures { result ≡ move_change hour from to kwh }
 {
-    let kind = call.kind;
-    match kind {
-        CommitmentKind::Take => call.unit,
-        CommitmentKind::Release => call.unit,
-        CommitmentKind::Move => call.to,
-    }
-}
-
-fn same_units(call: CommitmentCall) -> bool
-    ensures { result ≡ (change_of call).same }
-{
-    let kind = call.kind;
-    match kind {
-        CommitmentKind::Take => false,
-        CommitmentKind::Release => false,
-        CommitmentKind::Move => call.unit == call.to,
+    CommitmentChange {
+        hour,
+        from,
+        to,
+        out: HubKwh(kwh),
+        into: HubKwh(kwh),
+        moves: true,
     }
 }
 
@@ -238,15 +213,11 @@ fn same_units(call: CommitmentCall) -> bool
 pub fn change_of(call: CommitmentCall) -> CommitmentChange
     ensures { result ≡ change_of call }
 {
-    let out = given_by(call);
-    let into = got_by(call);
-    CommitmentChange {
-        hour: call.hour,
-        from: call.unit,
-        to: getter(call),
-        out,
-        into,
-        same: same_units(call),
+    let kind = call.kind;
+    match kind {
+        CommitmentKind::Take => take_change(call.hour, call.unit, call.kwh),
+        CommitmentKind::Release => release_change(call.hour, call.unit, call.kwh),
+        CommitmentKind::Move => move_change(call.hour, call.unit, call.to, call.kwh),
     }
 }
 
@@ -312,6 +283,16 @@ fn over_offer(last: HubKwh, held: HubKwh, kwh: HubKwh) -> bool
     held.exceeds(last.above(kwh))
 }
 
+// 24: whether a move's units are the same.
+fn same_units(change: CommitmentChange) -> bool
+    ensures { result ≡ (change.moves && eqb change.from change.to) }
+{
+    if change.moves {
+        return change.from == change.to;
+    }
+    false
+}
+
 // 21: whether nothing is given and nothing comes.
 fn no_amount(change: CommitmentChange) -> bool
     ensures { result ≡ (eqb change.out.0 0 && eqb change.into.0 0) }
@@ -343,7 +324,7 @@ pub fn change_verdict(
     if units_unknown(units, change.from, change.to) {
         return Verdict::Refused(Refusal::UnitUnknown);
     }
-    if change.same {
+    if same_units(change) {
         return Verdict::Refused(Refusal::SameUnit);
     }
     if settled {

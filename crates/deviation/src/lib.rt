@@ -1,5 +1,6 @@
 // The split of a unit's deviation by kinds, and the test that there is something to split it by.
 #![tactic(auto)]
+
 ghost use Rattle.std.specs.Prelude.{◌≡◌, true, cond, ◌≤◌};
 ghost use Rattle.units.specs.Units.{member_at};
 ghost use Rattle.record.specs.InRange.{SpanInRange, UnitInRange};

@@ -1,6 +1,7 @@
 // One engine for every call. A call is carried out over the lent numbers of the book: `carry_out` tests it, stores what it changes, and keeps what it posts
 // in an entry of the rows. A single call and a list of calls both go through it; the functions over the lent journal stand in the crate above.
 #![tactic(auto)]
+
 ghost use Rattle.std.specs.Prelude.{◌≡◌, List, ℕ};
 ghost use Rattle.decisions.specs.Calls.{record_of, call_of};
 ghost use Rattle.engine.specs.Table.{table, Ready, Carried};

@@ -1,10 +1,11 @@
 // What `replay` prints of a list of calls, written into a lent buffer: a line for each call with its result, and the tables behind them.
 #![tactic(auto)]
+
 ghost use Rattle.std.specs.Prelude.{◌≡◌, ◌<◌};
 ghost use Rattle.state.specs.Sizes.{hours, places};
 ghost use Rattle.decimal.specs.Output.{output, written};
 ghost use Rattle.entries.specs.Entries.{field, amount_field, refusal_text, sheet_refused, answer_text, total_text, result_text, line_text, entry_line, stop_line};
-ghost use Rattle.entries.specs.Tables.{commitment_line, hour_commitments, commitment_lines, tables, total_line};
+ghost use Rattle.entries.specs.Tables.{commitment_line, hour_commitments, commitment_lines, settled_line, settled_units, settled_hour, settled_hours, tables, total_line};
 
 use energy::HubKwh;
 use ledger::{Answer, Refusal, TotalAnswer, Verdict};
@@ -167,12 +168,62 @@ fn put_commitments(out: &mut [u8], at: usize, book: Book) -> usize
     place
 }
 
+// The unit of place k in hour h, both from 0, where that unit is in the plant.
+fn put_settled(out: &mut [u8], at: usize, units: u64, book: Book, h: usize, k: usize) -> usize
+    requires { (h < hours) × (k < places) }
+    ensures { output out.new result ≡ written (output out.old at) (settled_line units book h k) }
+{
+    if units::member_at(units, k) {
+        let grains = state::energy_at(book, h, k);
+        let amounts = state::amounts_at(book, h, k);
+        let a = decimal::put_bytes(out, at, b"settled ");
+        return listing::put_unit_line(out, a, h as u64 + 1, k as u64 + 1, grains, amounts);
+    }
+    at
+}
+
+fn put_settled_units(out: &mut [u8], at: usize, units: u64, book: Book, h: usize) -> usize
+    requires { h < hours }
+    ensures { output out.new result ≡ written (output out.old at) (settled_units units book h) }
+{
+    let mut place = at;
+    let mut k: usize = 0;
+    while k < 8 {
+        place = put_settled(out, place, units, book, h, k);
+        k += 1;
+    }
+    place
+}
+
+// Hour h, from 0, where it stands settled.
+fn put_settled_hour(out: &mut [u8], at: usize, units: u64, book: Book, h: usize) -> usize
+    requires { h < hours }
+    ensures { output out.new result ≡ written (output out.old at) (settled_hour units book h) }
+{
+    if state::mark_at(book, h) == 1 {
+        return put_settled_units(out, at, units, book, h);
+    }
+    at
+}
+
+fn put_settled_hours(out: &mut [u8], at: usize, units: u64, book: Book) -> usize
+    ensures { output out.new result ≡ written (output out.old at) (settled_hours units book) }
+{
+    let mut place = at;
+    let mut h: usize = 0;
+    while h < 24 {
+        place = put_settled_hour(out, place, units, book, h);
+        h += 1;
+    }
+    place
+}
+
 // The tables of commitments and of settled hours.
 pub fn put_tables(out: &mut [u8], at: usize, units: u64, book: Book) -> usize
     ensures { output out.new result ≡ written (output out.old at) (tables units book) }
 {
     let a = put_commitments(out, at, book);
-    listing::put_settled(out, a, b"settled ", units, book)
+    put_settled_hours(out, a, units, book)
 }
 
 // A line of the table of totals, where the unit is in the plant.

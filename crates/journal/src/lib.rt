@@ -1,6 +1,7 @@
 // The calls over the lent journal, a list of postings and a count of them. What a call comes to is decided in the crates `single` and `series`; here the
 // postings are looked at and appended.
 #![tactic(auto)]
+
 ghost use Rattle.std.specs.Prelude.{◌≡◌, ◌≤◌, ◌-◌, length};
 ghost use Rattle.state.specs.Book.{empty_book};
 ghost use Rattle.ledger.specs.Ledger.{take as take_call, release as release_call, move as move_call, settle as settle_call, restate as restate_call, void as void_call};

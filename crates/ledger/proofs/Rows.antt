@@ -28,6 +28,8 @@ module _ (P : Decision → Outcome → Type 0) (l : Ledger) (start : ℕ) (d : D
   pub beside : (rs : List Row) (cs : List Condition) → Beside rs cs → (Clear cs → P d o) → P (by_verdict (verdict rs) d f) (first_of cs l start o)
   unfolding verdict first_of
   beside [] [] done accept = accept none
+  beside [] (c ∷ cs) x4 accept = elim x4 [ ]
+  beside (r ∷ rs) [] x4 accept = elim x4 [ ]
   beside (r ∷ rs) (c ∷ cs) (next n i h more') accept = by c.holds refl (λ e. beside rs cs (more' e) (λ k. accept (more e k)))
     where
       numbers : P (f r.refusal) (refused_by l start c.number c.line)

@@ -1,6 +1,7 @@
 // The calls on the book and the journal: what each is refused for, and what an accepted one changes and posts; and the plain ledger, which says the
 // same with no book. Definitions and laws; the code that carries the calls out stands in the crates above.
 #![tactic(auto)]
+
 use lines::{ReadAnswer, TextRefusal};
 use postings::Plan;
 use record::Record;

@@ -41,16 +41,16 @@ joined_where true n f = refl
 joined_where false zero f = refl
 joined_where false (suc n) f = ap (λ (l : List ℕ). l ++ []) (joined_where false n f)
 
-module _ (lead : List ℕ) (units : ℕ) (b : Book) where
-  entry_at : (h k : ℕ) → k < places → entry_lines lead units b (8 * h + k) ≡ cond (eqb (mark_at b h) settled_mark) (place_line lead units b h k) []
+module _ (units : ℕ) (b : Book) where
+  entry_at : (h k : ℕ) → k < places → entry_lines units b (8 * h + k) ≡ cond (eqb (mark_at b h) settled_mark) (place_line units b h k) []
   entry_at h k l =
       let hour : (8 * h + k) / 8 ≡ h = omega arith in
       let place : (8 * h + k) % 8 ≡ k = omega arith in
-      λ i. entry_line lead units (mark_at b (hour i)) (hour i) (place i) (get_or b.energy (8 * h + k) no_grains) (get_or b.amounts (8 * h + k) past_amounts)
+      λ i. entry_line units (mark_at b (hour i)) (hour i) (place i) (get_or b.energy (8 * h + k) no_grains) (get_or b.amounts (8 * h + k) past_amounts)
 
-  pub all_entries : joined 192 (entry_lines lead units b) ≡ settled_lines lead units b
+  pub all_entries : joined 192 (entry_lines units b) ≡ settled_lines units b
   unfolding settled_lines hour_lines
   all_entries =
-      joined_eights hours (entry_lines lead units b)
+      joined_eights hours (entry_lines units b)
       ∙ joined_same hours _ _ (λ h bh.
-      joined_same places _ _ (λ k l. entry_at h k l) ∙ joined_where (eqb (mark_at b h) settled_mark) places (place_line lead units b h))
+      joined_same places _ _ (λ k l. entry_at h k l) ∙ joined_where (eqb (mark_at b h) settled_mark) places (place_line units b h))

@@ -1,5 +1,4 @@
--- What the statement prints (01, Program and marked figures), as bytes: 10 is LF, 32 a space. `replay` prints the settled hours in the same lines, with a
--- word in front of each.
+-- What the statement prints (01, Program and marked figures), as bytes: 10 is LF, 32 a space.
 use Rattle.std.specs.Prelude.{ℕ, zero, suc, ◌+◌, ◌*◌, ◌/◌, ◌%◌, cond, List, [], ◌∷◌, ◌++◌, eqb, get_or}
 use Rattle.decimal.specs.Decimal.{digits, signed}
 use Rattle.text.specs.Bytes.{bytes}
@@ -10,8 +9,7 @@ use Rattle.state.specs.declared.Book.{Book}
 use Rattle.state.specs.Sizes.{hours, places, items}
 use Rattle.state.specs.Book.{no_grains, past_amounts, mark_at, energy_at, amounts_at, item_of, settled_mark}
 
--- the most bytes that a number, a field, a line, the lines of the settled hours behind a lead of so many bytes, and a whole statement have, as numbers are
--- machine words
+-- the most bytes that a number, a field, a line, an hour and a whole statement have, as numbers are machine words
 abbrev pub most_number : ℕ
 most_number = 20
 
@@ -21,11 +19,11 @@ most_field = most_number + 1
 abbrev pub most_line : ℕ
 most_line = most_number + (2 + items) * most_field + 1
 
-abbrev pub most_settled : (lead : ℕ) → ℕ
-most_settled lead = hours * (places * (lead + most_line))
+abbrev pub most_hour : ℕ
+most_hour = places * most_line
 
 abbrev pub most_bytes : ℕ
-most_bytes = most_settled 0
+most_bytes = hours * most_hour
 
 -- the bytes f 0, f 1, .., f (n - 1), one after the other
 unfoldable pub joined : ℕ → (ℕ → List ℕ) → List ℕ
@@ -43,27 +41,26 @@ item_field a i = 32 ∷ signed (item_of a i)
 unfoldable pub unit_line : (hour unit grains : ℕ) → Amounts → List ℕ
 unit_line hour unit grains a = digits hour ++ (number_field unit ++ (number_field grains ++ (joined items (item_field a) ++ (10 ∷ []))))
 
--- "a line per unit": the plant's units ascending; place k is that of unit k + 1, hour h that of hour h + 1. The lead stands in front of each line;
--- the statement has none
-unfoldable pub line_of : (lead : List ℕ) → (units h k : ℕ) → HubGrains → Amounts → List ℕ
-line_of lead units h k grains a = cond (member_at units k) (lead ++ unit_line (h + 1) (k + 1) grains.0 a) []
+-- "a line per unit": the plant's units ascending; place k is that of unit k + 1, hour h that of hour h + 1
+unfoldable pub line_of : (units h k : ℕ) → HubGrains → Amounts → List ℕ
+line_of units h k grains a = cond (member_at units k) (unit_line (h + 1) (k + 1) grains.0 a) []
 
-abbrev pub place_line : (lead : List ℕ) → (units : ℕ) → Book → (h k : ℕ) → List ℕ
-place_line lead units b h k = line_of lead units h k (energy_at b h k) (amounts_at b h k)
+abbrev pub place_line : (units : ℕ) → Book → (h k : ℕ) → List ℕ
+place_line units b h k = line_of units h k (energy_at b h k) (amounts_at b h k)
 
 -- "it prints settled hours ascending"
-unfoldable pub hour_lines : (lead : List ℕ) → (units : ℕ) → Book → (h : ℕ) → List ℕ
-hour_lines lead units b h = cond (eqb (mark_at b h) settled_mark) (joined places (place_line lead units b h)) []
+unfoldable pub hour_lines : (units : ℕ) → Book → (h : ℕ) → List ℕ
+hour_lines units b h = cond (eqb (mark_at b h) settled_mark) (joined places (place_line units b h)) []
 
-unfoldable pub settled_lines : (lead : List ℕ) → (units : ℕ) → Book → List ℕ
-settled_lines lead units b = joined hours (hour_lines lead units b)
+unfoldable pub settled_lines : (units : ℕ) → Book → List ℕ
+settled_lines units b = joined hours (hour_lines units b)
 
 -- for the code: the same line by line, that of entry e being of hour e / 8 and place e % 8
-abbrev pub entry_line : (lead : List ℕ) → (units mark h k : ℕ) → HubGrains → Amounts → List ℕ
-entry_line lead units mark h k grains a = cond (eqb mark settled_mark) (line_of lead units h k grains a) []
+abbrev pub entry_line : (units mark h k : ℕ) → HubGrains → Amounts → List ℕ
+entry_line units mark h k grains a = cond (eqb mark settled_mark) (line_of units h k grains a) []
 
-abbrev pub entry_lines : (lead : List ℕ) → (units : ℕ) → Book → (e : ℕ) → List ℕ
-entry_lines lead units b e = entry_line lead units (mark_at b (e / 8)) (e / 8) (e % 8) (get_or b.energy e no_grains) (get_or b.amounts e past_amounts)
+abbrev pub entry_lines : (units : ℕ) → Book → (e : ℕ) → List ℕ
+entry_lines units b e = entry_line units (mark_at b (e / 8)) (e / 8) (e % 8) (get_or b.energy e no_grains) (get_or b.amounts e past_amounts)
 
 -- "on the first refusal it prints only `refused=` and the number"
 unfoldable pub refusal_line : ℕ → List ℕ

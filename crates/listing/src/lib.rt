@@ -1,9 +1,10 @@
-// The lines of the statement, written into a lent buffer: settled hours, or a refusal. The settled hours have a lead in front of each line, for `replay`.
+// The lines of the statement, written into a lent buffer: settled hours, or a refusal.
 #![tactic(auto)]
-ghost use Rattle.std.specs.Prelude.{◌≡◌, ◌+◌, ◌*◌, ◌≤◌, ◌<◌, length};
+
+ghost use Rattle.std.specs.Prelude.{◌≡◌, ◌+◌, ◌*◌, ◌≤◌, ◌<◌};
 ghost use Rattle.state.specs.Sizes.{hours, places, items};
 ghost use Rattle.decimal.specs.Output.{output, written};
-ghost use Rattle.listing.specs.Listing.{most_field, most_line, most_settled, joined, number_field, item_field, unit_line, line_of, entry_line, settled_lines, refusal_line};
+ghost use Rattle.listing.specs.Listing.{most_field, most_line, most_bytes, joined, number_field, item_field, unit_line, line_of, entry_line, settled_lines, refusal_line};
 
 use energy::HubGrains;
 use settlement::Amounts;
@@ -42,7 +43,7 @@ fn put_items(out: &mut [u8], at: usize, amounts: Amounts) -> usize
 }
 
 // The line of a unit in an hour.
-fn put_unit_line(
+pub fn put_unit_line(
     out: &mut [u8],
     at: usize,
     hour: u64,
@@ -60,11 +61,10 @@ fn put_unit_line(
     decimal::put_byte(out, d, b'\n')
 }
 
-// The line of the unit of place k in hour h, both from 0, behind the lead, where that unit is in the plant.
+// The line of the unit of place k in hour h, both from 0, where that unit is in the plant.
 fn put_place(
     out: &mut [u8],
     at: usize,
-    lead: &[u8],
     units: u64,
     h: usize,
     k: usize,
@@ -72,21 +72,19 @@ fn put_place(
     amounts: Amounts,
 ) -> usize
     requires { (h < hours) × (k < places) }
-    ensures result_after { output out.new result ≡ written (output out.old at) (line_of lead.now units h k grains amounts) }
-    ensures upper_bound { result ≤ at + (length lead.now + most_line) }
+    ensures result_after { output out.new result ≡ written (output out.old at) (line_of units h k grains amounts) }
+    ensures upper_bound { result ≤ at + most_line }
 {
     if units::member_at(units, k) {
-        let a = decimal::put_bytes(out, at, lead);
-        return put_unit_line(out, a, h as u64 + 1, k as u64 + 1, grains, amounts);
+        return put_unit_line(out, at, h as u64 + 1, k as u64 + 1, grains, amounts);
     }
     at
 }
 
-// The line of the unit of place k in hour h, both from 0, behind the lead, where that hour stands settled.
+// The line of the unit of place k in hour h, both from 0, where that hour stands settled.
 fn put_entry(
     out: &mut [u8],
     at: usize,
-    lead: &[u8],
     units: u64,
     mark: u64,
     h: usize,
@@ -95,19 +93,19 @@ fn put_entry(
     amounts: Amounts,
 ) -> usize
     requires { (h < hours) × (k < places) }
-    ensures result_after { output out.new result ≡ written (output out.old at) (entry_line lead.now units mark h k grains amounts) }
-    ensures upper_bound { result ≤ at + (length lead.now + most_line) }
+    ensures result_after { output out.new result ≡ written (output out.old at) (entry_line units mark h k grains amounts) }
+    ensures upper_bound { result ≤ at + most_line }
 {
     if mark == 1 {
-        return put_place(out, at, lead, units, h, k, grains, amounts);
+        return put_place(out, at, units, h, k, grains, amounts);
     }
     at
 }
 
-// The settled hours, each line behind the lead. The book is read in place, entry by entry.
-pub fn put_settled(out: &mut [u8], at: usize, lead: &[u8], units: u64, book: Book) -> usize
-    ensures result_after { output out.new result ≡ written (output out.old at) (settled_lines lead.now units book) }
-    ensures upper_bound { result ≤ at + most_settled (length lead.now) }
+// The settled hours. The book is read in place, entry by entry.
+pub fn put_settled(out: &mut [u8], at: usize, units: u64, book: Book) -> usize
+    ensures result_after { output out.new result ≡ written (output out.old at) (settled_lines units book) }
+    ensures upper_bound { result ≤ at + most_bytes }
 {
     let mut place = at;
     let mut e: usize = 0;
@@ -116,7 +114,7 @@ pub fn put_settled(out: &mut [u8], at: usize, lead: &[u8], units: u64, book: Boo
         let mark = book.mark[h];
         let grains = book.energy[e];
         let amounts = book.amounts[e];
-        place = put_entry(out, place, lead, units, mark, h, e % 8, grains, amounts);
+        place = put_entry(out, place, units, mark, h, e % 8, grains, amounts);
         e += 1;
     }
     place

@@ -1,6 +1,7 @@
 // The book and the offers as slices of numbers, which can be lent to the functions that carry calls out. The book's four lists are unpacked once
 // for a list of calls and packed again at its end; an hour's values are read and stored in place.
 #![tactic(auto)]
+
 ghost use Rattle.std.specs.Prelude.{◌≡◌, ℕ, ◌+◌, ◌*◌, ◌≤◌, ◌<◌, length, get_or, pos, nat_abs, ◌-ℤ◌};
 ghost use Rattle.std.proofs.Math.Seq.{paste};
 ghost use Rattle.finite.specs.Finite.{tabulate};

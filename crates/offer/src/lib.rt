@@ -1,5 +1,6 @@
 // A unit's offer for an hour: its test, and the modified offer's prices and sums.
 #![tactic(auto)]
+
 ghost use Rattle.std.specs.Prelude.{◌≡◌, true, ◌-◌, ◌≤◌, ◌<◌};
 ghost use Rattle.finite.specs.Finite.{every};
 ghost use Rattle.offer.specs.Offer.{no_offer, steps_allowed, in_range, in_order, step_in_range, step_in_order, offer_holds, last_quantity};

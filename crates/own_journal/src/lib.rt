@@ -1,5 +1,6 @@
 // A journal list of 2,000 places held by value, and lent to `journal` for a list of calls or a total.
 #![tactic(auto)]
+
 ghost use Rattle.std.specs.Prelude.{◌≡◌, length};
 ghost use Rattle.ledger.specs.Total.{total_on};
 ghost use Rattle.batch.specs.Run.{turns_of, ran_all};

@@ -1,6 +1,7 @@
 // A list of calls: begun with 9 and 12 tested, and carried on a batch at a time. What a batch posts is kept in rows until the journal's functions, in
 // the crate above, append it.
 #![tactic(auto)]
+
 ghost use Rattle.std.specs.Prelude.{◌≡◌, ◌-◌, ◌≤◌};
 ghost use Rattle.series.specs.Stands.{Due, Goes, StartedAt, ran_of, refused_step, refusal_by, refused_from};
 

@@ -31,28 +31,28 @@ use Rattle.terms.specs.Terms.{rates_of}
 use Rattle.settlement.specs.Ranges.{HourRead, HourReady, RatesReady, UnitReady, place_amounts, UnitsReady}
 
 -- by places: each unit's own use and its offer of an hour
-abbrev pub field_own : Sheet → ℕ → ℕ
-field_own sheet k = (sheet_unit sheet.unit k).own
+abbrev pub own_at : Sheet → ℕ → ℕ
+own_at sheet k = (sheet_unit sheet.unit k).own
 
 abbrev pub hour_offer : Sheet → Record → ℕ → Offer
 hour_offer sheet r k = offer_at (sheet_unit sheet.unit k) (r.hour - 1)
 
 module _ (sheet : Sheet) (r : Record) where
-  pub own_at : (k : ℕ) → k < 8 → get_or (tabulate 8 (field_own sheet)) k 0 ≡ field_own sheet k
-  own_at k l = get_d_tabulate 8 (field_own sheet) k 0 l
+  pub own_at_lem : (k : ℕ) → k < 8 → get_or (tabulate 8 (own_at sheet)) k 0 ≡ own_at sheet k
+  own_at_lem k l = get_d_tabulate 8 (own_at sheet) k 0 l
 
   offer_at_lem : (k : ℕ) → k < 8 → get_or (tabulate 8 (hour_offer sheet r)) k past_offer ≡ hour_offer sheet r k
   offer_at_lem k l = get_d_tabulate 8 (hour_offer sheet r) k past_offer l
 
   -- the amounts by what was taken out are the definition's
   pub place_same : (commitment : List HubKwh) (energy : List HubGrains) (k : ℕ) → k < 8
-      → place_amounts (rates_of sheet r.hour) sheet.units (tabulate 8 (field_own sheet)) (tabulate 8 (hour_offer sheet r)) commitment r.unit energy
+      → place_amounts (rates_of sheet r.hour) sheet.units (tabulate 8 (own_at sheet)) (tabulate 8 (hour_offer sheet r)) commitment r.unit energy
       (drawn_pay r.reverse r.net sheet.ceiling sheet.loss) k
       ≡ amounts_at sheet r commitment energy k
   unfolding amounts_at drawn_at
   place_same commitment energy k l = λ i.
       cond (member_at sheet.units k)
-      (amounts_of (rates_of sheet r.hour) (own_at k l i) (offer_at_lem k l i) (get_or commitment k (record { 0 = 0 })) (record_unit r k)
+      (amounts_of (rates_of sheet r.hour) (own_at_lem k l i) (offer_at_lem k l i) (get_or commitment k (record { 0 = 0 })) (record_unit r k)
       (get_or energy k (record { 0 = 0 })) (drawn_at sheet r k))
       no_amounts
 
@@ -63,7 +63,7 @@ module _ (sheet : Sheet) (r : Record) where
     pub sheet_unit_in : (k : ℕ) → member_at sheet.units k ≡ true → SheetUnitInRange (sheet_unit sheet.unit k)
     sheet_unit_in k m = sheet_in.unit k (place_lt sheet.units k m) m
 
-    pub own_most : (k : ℕ) → member_at sheet.units k ≡ true → field_own sheet k ≤ 2000
+    pub own_most : (k : ℕ) → member_at sheet.units k ≡ true → own_at sheet k ≤ 2000
     own_most k m = (sheet_unit_in k m).own
 
     hour_offered : (k : ℕ) → member_at sheet.units k ≡ true → offer_holds (hour_offer sheet r k) ≡ true
@@ -114,7 +114,7 @@ module _ (sheet : Sheet) (r : Record) where
     hour_most = energy_most r.net r.reverse (plant_of sheet r commitment) plant_holds (net_most h.read)
 
     pub unit_ready : (k : ℕ) → member_at sheet.units k ≡ true
-        → UnitReady (field_own sheet k) (hour_offer sheet r k) (get_or commitment k (record { 0 = 0 })) (record_unit r k)
+        → UnitReady (own_at sheet k) (hour_offer sheet r k) (get_or commitment k (record { 0 = 0 })) (record_unit r k)
         (get_or (energies r.net r.reverse (plant_of sheet r commitment)) k (record { 0 = 0 }))
     unit_ready k m =
         record {
@@ -125,6 +125,6 @@ module _ (sheet : Sheet) (r : Record) where
           allocated = hour_most k (place_lt sheet.units k m);
         }
 
-    pub units_ready : UnitsReady sheet.units (tabulate 8 (field_own sheet)) (tabulate 8 (hour_offer sheet r)) commitment r.unit
+    pub units_ready : UnitsReady sheet.units (tabulate 8 (own_at sheet)) (tabulate 8 (hour_offer sheet r)) commitment r.unit
         (energies r.net r.reverse (plant_of sheet r commitment))
-    units_ready k m = let l = place_lt sheet.units k m in rw (own_at k l, offer_at_lem k l) (unit_ready k m)
+    units_ready k m = let l = place_lt sheet.units k m in rw (own_at_lem k l, offer_at_lem k l) (unit_ready k m)

@@ -24,7 +24,7 @@ use Rattle.settlement.specs.Hour.{plant_of, hour_result, hour_is}
 use Rattle.deviation.specs.Proportions.{unit_proportioned}
 use Rattle.settlement.specs.Refusals.{proportions_hold}
 use Rattle.settlement.specs.Ranges.{HourRead, HourGiven, HourDue, RatesReady, UnitsReady, plant_by, hour_by, proportions_by}
-use Rattle.settlement.proofs.Ready.{own_at, place_same, own_most, rates_ready, drawn_ready, net_most, plant_holds, units_ready}
+use Rattle.settlement.proofs.Ready.{own_at_lem, place_same, own_most, rates_ready, drawn_ready, net_most, plant_holds, units_ready}
 
 every_same : (n : ℕ) (f g : ℕ → Bool) → ((i : ℕ) → i < n → f i ≡ g i) → every n f ≡ every n g
 unfolding every
@@ -45,13 +45,13 @@ module _ (sheet : Sheet) (r : Record) where
   proportions_by_lem =
       ap (λ (d : HourSheet). proportions_by d.units d.own r) (hour_sheet_is sheet r.hour)
       ∙ every_same 8 _ _ (λ k l.
-      ap (λ (n : ℕ). cond (member_at sheet.units k) (unit_proportioned n (record_unit r k)) true) (own_at sheet r k l))
+      ap (λ (n : ℕ). cond (member_at sheet.units k) (unit_proportioned n (record_unit r k)) true) (own_at_lem sheet r k l))
 
 -- of a unit of the plant: its own use, and what the record says of it
 of_sheet : (sheet : Sheet) (r : Record) → HourRead sheet r → (k : ℕ) → k < 8
     → let d = hour_sheet_with sheet r.hour (hour_offers sheet (r.hour - 1)) in
     member_at d.units k ≡ true → (get_or d.own k 0 ≤ 10000) × UnitInRange (record_unit r k)
-of_sheet sheet r i k l m = (omega (arith, own_at sheet r k l, own_most sheet r i k m), i.in_range_lem.unit k m)
+of_sheet sheet r i k l m = (omega (arith, own_at_lem sheet r k l, own_most sheet r i k m), i.in_range_lem.unit k m)
 
 pub given_unit : (day : HourSheet) (r : Record) → HourGiven day r → (k : ℕ) → k < 8 → member_at day.units k ≡ true
     → (get_or day.own k 0 ≤ 10000) × UnitInRange (record_unit r k)

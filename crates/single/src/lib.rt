@@ -1,5 +1,6 @@
 // Calls one at a time, over the engine: what a single call comes to. Its postings are kept in rows until the journal's functions, in a crate above, append them.
 #![tactic(auto)]
+
 ghost use Rattle.std.specs.Prelude.{◌≡◌, true, ◌&&◌, leb};
 ghost use Rattle.sheet.specs.Ranges.{sheet_holds};
 ghost use Rattle.ledger.specs.Ledger.{take as take_call, release as release_call, move as move_call, settle as settle_call, restate as restate_call, void as void_call};

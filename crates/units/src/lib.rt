@@ -1,5 +1,6 @@
 // The plant's units, read off the sheet's mask: bit n - 1 stands for unit n, whose place is n - 1.
 #![tactic(auto)]
+
 ghost use Rattle.std.specs.Prelude.{◌≡◌, ◌<◌};
 ghost use Rattle.units.specs.Units.{is_member, member_at, members, unit_count, is_lowest};
 

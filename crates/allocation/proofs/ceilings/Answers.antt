@@ -13,9 +13,10 @@ use Rattle.energy.specs.declared.NetKwh.{NetKwh}
 use Rattle.energy.specs.declared.HubGrains.{HubGrains}
 use Rattle.energy.specs.Energy.{hub_of}
 use Rattle.apportion.specs.Shares.{shares}
+use Rattle.allocation.specs.declared.Plant.{Plant}
 use Rattle.allocation.specs.Allocation.{above, net_at, gross_at, net_energy, real_sum, excess, weight_at, excess_shares, ceiling_at, ceilings_is}
 use Rattle.allocation.proofs.Weights.{real_most, weights_fit, share_most}
-use Rattle.allocation.proofs.ceilings.Goals.{After-apportion, After-hub_of-excess, After-weights_of-weights}
+use Rattle.allocation.proofs.ceilings.Goals.{After-hub_of-excess, After-weights_of-weights}
 use Rattle.allocation.proofs.ceilings.Goals as goal
 
 -- the code's steps are the definitions
@@ -42,16 +43,10 @@ weights-here c =
     (λ (r : NetKwh). tabulate 8 (λ (k : ℕ). cond (eqb r.0 0) (gross_at plant.units plant.nominal k).0 (net_at plant.units plant.real k).0))
     c.real_sum-reals.ensures
 
-shares-here : (c : After-apportion) →
-    let a = c.args in
-    c.apportion.new.1.1.0 ≡ excess_shares a.net a.reverse a.plant
-unfolding excess_shares
-shares-here c =
-    let x = c.hub_of-excess.result.0 in
-    let plant = c.args.plant in
-    c.apportion.ensures
-    ∙ (ap (λ (w : List ℕ). shares w x) (weights-here (?After-weights_of-weights c))
-    ∙ ap (λ (g : HubGrains). shares (tabulate 8 (weight_at plant)) g.0) (excess-here (?After-hub_of-excess c)))
+module _ (net reverse : NetKwh) (plant : Plant) (x : HubGrains) (w : List ℕ) where
+  shares_here : x ≡ excess net reverse plant → w ≡ tabulate 8 (weight_at plant) → shares w x.0 ≡ excess_shares net reverse plant
+  unfolding excess_shares
+  shares_here e f = ap (λ (w : List ℕ). shares w x.0) f ∙ ap (λ (g : HubGrains). shares (tabulate 8 (weight_at plant)) g.0) e
 
 pub real_sum-reals-requires : goal.real_sum-reals-requires
 real_sum-reals-requires c = real_most c.args.plant c.requires.1
@@ -64,10 +59,10 @@ apportion-requires c =
 
 pub with_shares-requires : goal.with_shares-requires
 with_shares-requires c = (
-      real_most c.args.plant c.requires.1,
-      rw (shares-here (goal.at.with_shares-requires c).After-apportion) (share_most c.args.plant c.requires.1 c.args.net c.args.reverse c.requires.0),
-      omega (arith, c.requires.1.lost),
-    )
+  real_most c.args.plant c.requires.1,
+  rw (c.apportion.ensures ∙ shares_here _ _ _ _ _ (excess-here (goal.at.with_shares-requires c).After-hub_of-excess) (weights-here (goal.at.with_shares-requires c).After-weights_of-weights)) (share_most c.args.plant c.requires.1 c.args.net c.args.reverse c.requires.0),
+  omega (arith, c.requires.1.lost),
+)
 
 pub returns : goal.returns
 unfolding ceiling_at
@@ -75,4 +70,4 @@ returns c =
     let plant = c.args.plant in
     let ceiling : List ℕ → ℕ → HubGrains = λ shares k. record { 0 = (hub_of (net_at plant.units plant.real k) plant.loss).0 + get_or shares k 0 } in
     c.with_shares.ensures
-    ∙ (ap (λ (l : List ℕ). tabulate 8 (ceiling l)) (shares-here (goal.at.returns c).After-apportion) ∙ sym (ceilings_is _ _ plant))
+    ∙ (ap (λ (l : List ℕ). tabulate 8 (ceiling l)) (c.apportion.ensures ∙ shares_here _ _ _ _ _ (excess-here (goal.at.returns c).After-hub_of-excess) (weights-here (goal.at.returns c).After-weights_of-weights)) ∙ sym (ceilings_is _ _ plant))

@@ -2,7 +2,6 @@
 -- Assumes nothing.
 use mathlib.Core.Path.{◌≡◌, refl, sym, ◌∙◌, ap}
 use mathlib.Core.Bool.{Bool, true, false}
-use mathlib.Core.Logic.{⊎_elim}
 use Prim.Native.Nat.{ℕ, ◌-◌}
 use native.Mathlib.Omega.{arith}
 use lib.Dec.{ltb}
@@ -11,6 +10,7 @@ use Rattle.allocation.specs.declared.Pick.TheVariants.{At as at}
 use Rattle.allocation.specs.Fill.{grains_at, better, best}
 use Rattle.allocation.specs.Blocks.{block_price}
 use Rattle.allocation.proofs.Rounds.{best_free, best_full, low_after}
+use Rattle.allocation.proofs.cheapest.Goals.{then-exceeds, else-exceeds}
 use Rattle.allocation.proofs.cheapest.Goals as goal
 
 pub loop-v-init : goal.loop-v-init
@@ -23,26 +23,26 @@ loop-v-preserved c =
     let l = c.loop-v in
     let room : ℕ → Bool = λ u. ltb (grains_at a.energies u) (grains_at a.ceilings u) in
     let next : ℕ → ℕ = block_price a.blocks in
-    ⊎_elim
-    (λ w.
-    let free : room l.v ≡ true = cc in
-    let better-is = w.1.ensures next refl l.invariant.2 in (
-      omega arith,
-      w.3
-          ∙ (better-is
-          ∙ (ap (λ (q : Pick). better next q l.v) l.invariant.1
-          ∙ best_free next room l.v free)),
-      low_after next l.v l.low c.if-exceeds.low (next l.v) refl l.found l.invariant.2 (λ n. w.4 ∙ w.2.ensures.0 n)
-          (λ u e. w.4 ∙ w.2.ensures.1 u e)
-          c.if-exceeds.found (w.3 ∙ better-is),
-    ))
-    (λ w.
-    let full : room l.v ≡ false = cc in (
-      omega arith,
-      w.1 ∙ (l.invariant.1 ∙ best_full next room l.v full),
-      λ u e. l.invariant.2 u (sym w.1 ∙ e) ∙ sym w.2,
-    ))
-    c.if-exceeds.branch
+    elim c.if-exceeds.branch [
+      | then-exceeds w ↦
+          let free : room l.v ≡ true = cc in
+          let better-is = w.better_of-better.ensures next refl l.invariant.2 in (
+            omega arith,
+            w.found-is
+                ∙ (better-is
+                ∙ (ap (λ (q : Pick). better next q l.v) l.invariant.1
+                ∙ best_free next room l.v free)),
+            low_after next l.v l.low c.if-exceeds.low (next l.v) refl l.found l.invariant.2 (λ n. w.low-is ∙ w.lower_of-low.ensures.0 n)
+                (λ u e. w.low-is ∙ w.lower_of-low.ensures.1 u e)
+                c.if-exceeds.found (w.found-is ∙ better-is),
+          )
+      | else-exceeds w ↦
+          let full : room l.v ≡ false = cc in (
+            omega arith,
+            w.found-is ∙ (l.invariant.1 ∙ best_full next room l.v full),
+            λ u e. l.invariant.2 u (sym w.found-is ∙ e) ∙ sym w.low-is,
+          )
+    ]
 
 pub returns : goal.returns
 returns c =

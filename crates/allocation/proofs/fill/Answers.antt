@@ -15,7 +15,7 @@ use Rattle.allocation.specs.Allocation.{prices_of}
 use Rattle.allocation.specs.Blocks.{block_price, block_end, HasBlock}
 use Rattle.allocation.proofs.Runs.{place_none, none_over}
 use Rattle.allocation.proofs.Rounds.{same_pick, known, placed, has_after, further}
-use Rattle.allocation.proofs.fill.Goals.{After-has-1, After-lesser-more, In-At}
+use Rattle.allocation.proofs.fill.Goals.{After-lesser-more, In-At}
 use Rattle.allocation.proofs.fill.Goals as goal
 
 -- the unit that gets the next grains, its room, and its block
@@ -39,26 +39,18 @@ known-here c =
     let l = c.loop-offers in
     known a.offers a.commitments a.ceilings l.energies l.blocks l.invariant.4 c.in-At.u l.invariant.1 (pick-here c)
 
-block_here : (c : In-At) →
+-- a round gives at least one grain, no more than are left and no more than the block has
+more-here : (c : After-lesser-more) →
     let a = c.args in
     let l = c.loop-offers in
     let u = c.in-At.u in
-    IsBlock (get_or a.offers u past_offer) (get_or a.commitments u (record { 0 = 0 })) (grains_at l.energies u) (grains_at a.ceilings u)
-    (block_price l.blocks u) (block_end l.blocks u)
-block_here c =
-    let l = c.loop-offers in
-    let k = known-here c in
-    l.invariant.4 c.in-At.u k.0 k.1
-
--- a round gives at least one grain, no more than are left and no more than the block has
-more-here : (c : After-lesser-more) →
+    let m = c.lesser-more.result.0 in
+    (u < 8) × (grains_at l.energies u < grains_at a.ceilings u) → (0 < m) × (m ≤ l.left.0) × (m ≤ block_end l.blocks u - grains_at l.energies u)
+more-here c k =
+    let a = c.args in
     let l = c.loop-offers in
     let u = c.in-At.u in
-    let m = c.lesser-more.result.0 in
-    (0 < m) × (m ≤ l.left.0) × (m ≤ block_end l.blocks u - grains_at l.energies u)
-more-here c =
-    let b = block_here (?After-has-1 c) in
-    let l = c.loop-offers in
+    let b = l.invariant.4 u k.0 k.1 in
     let some = ltb-true 0 l.left.0 (sym c.exceeds.ensures ∙ c.loop-offers-test.true) in
     let e = c.above.ensures in
     let m = c.lesser-more.ensures in
@@ -108,48 +100,48 @@ plus-grains-requires c =
     let a = c.args in
     let l = c.loop-offers in
     let u = c.in-At.u in
-    let m = more-here c in
-    let has = none_over (prices_of a.offers a.commitments) (grains_at a.ceilings) 8 (a.total.0 - l.left.0) l.energies u (known-here (goal.at.plus-grains-requires c).After-has-1).0 l.invariant.3 in
+    let m = more-here c (known-here (goal.at.plus-grains-requires c).In-At) in
+    let has = none_over (prices_of a.offers a.commitments) (grains_at a.ceilings) 8 (a.total.0 - l.left.0) l.energies u (known-here (goal.at.plus-grains-requires c).In-At).0 l.invariant.3 in
     omega (arith, has, m.1, l.invariant.0, c.well_formed.1.1.1.0)
 
 pub offset_bounds-offers-u : goal.offset_bounds-offers-u
-offset_bounds-offers-u c = let k = known-here (goal.at.offset_bounds-offers-u c).After-has-1 in omega (arith, k.0)
+offset_bounds-offers-u c = let k = known-here (goal.at.offset_bounds-offers-u c).In-At in omega (arith, k.0)
 
 pub bounds-offers-u : goal.bounds-offers-u
-bounds-offers-u c = let k = known-here (goal.at.bounds-offers-u c).After-has-1 in omega (arith, k.0)
+bounds-offers-u c = let k = known-here (goal.at.bounds-offers-u c).In-At in omega (arith, k.0)
 
 pub offset_bounds-commitments-u : goal.offset_bounds-commitments-u
-offset_bounds-commitments-u c = let k = known-here (goal.at.offset_bounds-commitments-u c).After-has-1 in omega (arith, k.0)
+offset_bounds-commitments-u c = let k = known-here (goal.at.offset_bounds-commitments-u c).In-At in omega (arith, k.0)
 
 pub bounds-commitments-u : goal.bounds-commitments-u
-bounds-commitments-u c = let k = known-here (goal.at.bounds-commitments-u c).After-has-1 in omega (arith, k.0)
+bounds-commitments-u c = let k = known-here (goal.at.bounds-commitments-u c).In-At in omega (arith, k.0)
 
 pub offset_bounds-ceilings-u : goal.offset_bounds-ceilings-u
-offset_bounds-ceilings-u c = let k = known-here (goal.at.offset_bounds-ceilings-u c).After-has-1 in omega (arith, k.0)
+offset_bounds-ceilings-u c = let k = known-here (goal.at.offset_bounds-ceilings-u c).In-At in omega (arith, k.0)
 
 pub bounds-ceilings-u : goal.bounds-ceilings-u
-bounds-ceilings-u c = let k = known-here (goal.at.bounds-ceilings-u c).After-has-1 in omega (arith, k.0)
+bounds-ceilings-u c = let k = known-here (goal.at.bounds-ceilings-u c).In-At in omega (arith, k.0)
 
 pub offset_bounds-energies-u-in-loop-offers : goal.offset_bounds-energies-u-in-loop-offers
-offset_bounds-energies-u-in-loop-offers c = let k = known-here (goal.at.offset_bounds-energies-u-in-loop-offers c).After-has-1 in omega (arith, k.0)
+offset_bounds-energies-u-in-loop-offers c = let k = known-here (goal.at.offset_bounds-energies-u-in-loop-offers c).In-At in omega (arith, k.0)
 
 pub bounds-energies-u-in-loop-offers : goal.bounds-energies-u-in-loop-offers
-bounds-energies-u-in-loop-offers c = let k = known-here (goal.at.bounds-energies-u-in-loop-offers c).After-has-1 in omega (arith, k.0)
+bounds-energies-u-in-loop-offers c = let k = known-here (goal.at.bounds-energies-u-in-loop-offers c).In-At in omega (arith, k.0)
 
 pub next_block-requires : goal.next_block-requires
 next_block-requires c =
-    let k = known-here (goal.at.next_block-requires c).After-has-1 in
+    let k = known-here (goal.at.next_block-requires c).In-At in
     λ l. c.requires c.in-At.u k.0 (omega (arith, k.1))
 
 pub offset_bounds-blocks-u-in-loop-offers : goal.offset_bounds-blocks-u-in-loop-offers
-offset_bounds-blocks-u-in-loop-offers c = let k = known-here (goal.at.offset_bounds-blocks-u-in-loop-offers c).After-has-1 in omega (arith, k.0)
+offset_bounds-blocks-u-in-loop-offers c = let k = known-here (goal.at.offset_bounds-blocks-u-in-loop-offers c).In-At in omega (arith, k.0)
 
 pub bounds-blocks-u-in-loop-offers : goal.bounds-blocks-u-in-loop-offers
-bounds-blocks-u-in-loop-offers c = let k = known-here (goal.at.bounds-blocks-u-in-loop-offers c).After-has-1 in omega (arith, k.0)
+bounds-blocks-u-in-loop-offers c = let k = known-here (goal.at.bounds-blocks-u-in-loop-offers c).In-At in omega (arith, k.0)
 
 pub loop-offers-smaller : goal.loop-offers-smaller
 loop-offers-smaller c =
-    let m = more-here (goal.at.loop-offers-smaller c).After-lesser-more in
+    let m = more-here (goal.at.loop-offers-smaller c).After-lesser-more (known-here (goal.at.loop-offers-smaller c).In-At) in
     omega (arith, m, c.above-left.ensures)
 
 pub loop-offers-preserved : goal.loop-offers-preserved
@@ -159,7 +151,7 @@ loop-offers-preserved c =
     let u = c.in-At.u in
     let m = c.lesser-more.result.0 in
     let grains = c.plus-grains in
-    let more = more-here (goal.at.loop-offers-preserved c).After-lesser-more in
+    let more = more-here (goal.at.loop-offers-preserved c).After-lesser-more (known-here (goal.at.loop-offers-preserved c).In-At) in
     let rest = c.above-left.ensures in
     let p = prices_of a.offers a.commitments in (
       omega (arith, l.invariant.0, rest),
@@ -167,8 +159,8 @@ loop-offers-preserved c =
       simp length-set l.invariant.2,
       further p (grains_at a.ceilings) (a.total.0 - l.left.0) m (a.total.0 - c.above-left.result.0) (replicate 8 (record { 0 = 0 })) l.energies _
           (omega (arith, l.invariant.0, more.1, rest)) l.invariant.3
-          (placed a.offers a.commitments a.ceilings l.energies l.blocks l.invariant.4 u l.invariant.1 (pick-here (goal.at.loop-offers-preserved c).After-has-1) m grains.result more.2 grains.ensures),
-      has_after a.offers a.commitments a.ceilings l.energies l.blocks l.invariant.4 u l.invariant.1 (pick-here (goal.at.loop-offers-preserved c).After-has-1) grains.result c.next_block.result
+          (placed a.offers a.commitments a.ceilings l.energies l.blocks l.invariant.4 u l.invariant.1 (pick-here (goal.at.loop-offers-preserved c).In-At) m grains.result more.2 grains.ensures),
+      has_after a.offers a.commitments a.ceilings l.energies l.blocks l.invariant.4 u l.invariant.1 (pick-here (goal.at.loop-offers-preserved c).In-At) grains.result c.next_block.result
           l.invariant.2 c.next_block.ensures,
     )
 

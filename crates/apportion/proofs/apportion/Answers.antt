@@ -3,45 +3,28 @@
 -- Assumes nothing.
 use Rattle.apportion.proofs.Laws.{shares_zero, quotients_le}
 use Rattle.apportion.proofs.Steps.{quotients_sum, due_shares}
-use Rattle.apportion.specs.Shares.{sum_of, quotient, Due}
-use Rattle.finite.specs.Finite.{sum}
+use Rattle.apportion.specs.Shares.{sum_of, quotient, Fits, Due}
+use Rattle.finite.specs.Finite.{tabulate}
 use lib.ListN.{length, replicate}
 use native.Mathlib.Omega.{arith}
+use mathlib.Core.List.{List}
 use Prim.Native.Nat.{ℕ, ◌≤◌, ◌<◌, ◌-◌}
 use mathlib.Core.Path.{◌≡◌, ap, sym, ◌∙◌}
-use Rattle.apportion.proofs.apportion.Goals.{After-quotients, After-quotients-arg-1, After-sum_of}
 use Rattle.apportion.proofs.apportion.Goals as goal
 
--- after the quotients: some weight is over 0
-some : (c : After-quotients) → 0 < sum_of c.args.weights.now
-some c = omega (arith, c.sum_of-all.ensures, c.if-all-eq0.false)
+-- after the quotients a: some weight is over 0
+module _ (w : List ℕ) (total all : ℕ) (a : List ℕ) (e : all ≡ sum_of w) (some : 0 < sum_of w) (begun : a ≡ tabulate (length w) (quotient all total w)) where
+  within : sum_of a ≤ total
+  within = omega (arith, quotients_sum w total all a e begun, quotients_le w total some)
 
-given : (c : After-quotients) →
-    let g = c.args in
-    let w = g.weights.now in
-    sum_of c.quotients.new.1.1.1.0 ≡ sum (length w) (quotient (sum_of w) g.total w)
-given c =
-    let g = c.args in
-    let s = c.sum_of-all in
-    quotients_sum g.weights.now g.total s.result c.quotients.new.1.1.1.0 s.ensures c.quotients.ensures
-
-within : (c : After-quotients) → sum_of c.quotients.new.1.1.1.0 ≤ c.args.total
-within c =
-    let g = c.args in
-    omega (arith, given c, quotients_le g.weights.now g.total (some c))
-
-due-here : (c : After-sum_of) →
-    let g = c.args in
-    Due g.weights.now g.total c.sum_of-all.result (g.total - c.sum_of.result) c.quotients.new.1.1.1.0
-due-here c =
-    let (?After-quotients-arg-1 c) = (?After-quotients-arg-1 c) in
-    record {
-      some = some after;
-      fits = c.requires.2;
-      summed = c.sum_of-all.ensures;
-      due = ap (λ (x : ℕ). c.args.total - x) (c.sum_of.ensures ∙ given (?After-quotients-arg-1 c));
-      begun = c.quotients.ensures;
-    }
+  due_here : (s : ℕ) → Fits w total → s ≡ sum_of a → Due w total all (total - s) a
+  due_here s fits summed = record {
+    some = some;
+    fits = fits;
+    summed = e;
+    due = ap (λ (x : ℕ). total - x) (summed ∙ quotients_sum w total all a e begun);
+    begun = begun;
+  }
 
 pub returns-then-all-eq0 : goal.returns-then-all-eq0
 returns-then-all-eq0 c =
@@ -49,13 +32,21 @@ returns-then-all-eq0 c =
     c.zeros.ensures ∙ (ap (λ (n : ℕ). replicate n 0) c.requires.0 ∙ sym (shares_zero _ _ e))
 
 pub sum_of-requires : goal.sum_of-requires
-sum_of-requires c = omega (arith, within (goal.at.sum_of-requires c).After-quotients-arg-1, c.ranges.total)
+sum_of-requires c =
+    let some : 0 < sum_of c.args.weights.now = omega (arith, c.sum_of-all.ensures, c.if-all-eq0.false) in
+    omega (arith, within _ _ _ _ c.sum_of-all.ensures some c.quotients.ensures, c.ranges.total)
 
 pub overflow_sub-rest : goal.overflow_sub-rest
-overflow_sub-rest c = omega (arith, within (goal.at.overflow_sub-rest c).After-quotients-arg-1, c.sum_of.ensures)
+overflow_sub-rest c =
+    let some : 0 < sum_of c.args.weights.now = omega (arith, c.sum_of-all.ensures, c.if-all-eq0.false) in
+    omega (arith, within _ _ _ _ c.sum_of-all.ensures some c.quotients.ensures, c.sum_of.ensures)
 
 pub add_ones-requires : goal.add_ones-requires
-add_ones-requires c = due-here (goal.at.add_ones-requires c).After-sum_of
+add_ones-requires c =
+    let some : 0 < sum_of c.args.weights.now = omega (arith, c.sum_of-all.ensures, c.if-all-eq0.false) in
+    due_here _ _ _ _ c.sum_of-all.ensures some c.quotients.ensures _ c.requires.2 c.sum_of.ensures
 
 pub returns : goal.returns
-returns c = c.add_ones.ensures ∙ due_shares _ _ _ _ _ (due-here (goal.at.returns c).After-sum_of)
+returns c =
+    let some : 0 < sum_of c.args.weights.now = omega (arith, c.sum_of-all.ensures, c.if-all-eq0.false) in
+    c.add_ones.ensures ∙ due_shares _ _ _ _ _ (due_here _ _ _ _ c.sum_of-all.ensures some c.quotients.ensures _ c.requires.2 c.sum_of.ensures)

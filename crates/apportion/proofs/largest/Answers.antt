@@ -25,12 +25,12 @@ loop-i-preserved c =
     let l = c.loop-i in
     let x = c.remainder_left-x.ensures in
     elim c.if-most-x.branch [
-      then-most-x w ↦ (
+      | then-most-x w ↦ (
         omega arith,
         w.part-is ∙ replaced q r g.shares.now l.i l.part l.invariant.1 (omega (arith, l.invariant.2, x, w.if-most-x.true)),
         w.most-is ∙ (x ∙ ap (remainder_left q r g.shares.now) (sym w.part-is)),
       )
-    | else-most-x w ↦ (
+      | else-most-x w ↦ (
         omega arith,
         w.part-is ∙ kept q r g.shares.now l.i l.part l.invariant.1 (omega (arith, l.invariant.2, x, w.if-most-x.false)),
         w.most-is ∙ (l.invariant.2 ∙ ap (remainder_left q r g.shares.now) (sym w.part-is)),

@@ -1,22 +1,16 @@
--- Hour and giving unit are the call's whatever its kind is; the other parts are the definition's.
+-- Each kind has its change, as the definition says.
 -- Assumes nothing.
-use mathlib.Core.Path.{◌≡◌, refl}
-use Rattle.decisions.specs.declared.CommitmentKind.{CommitmentKind}
-use Rattle.decisions.specs.declared.CommitmentKind.TheVariants.{Take, Release, Move}
-use Rattle.decisions.specs.declared.CommitmentCall.{CommitmentCall}
-use Rattle.decisions.specs.declared.CommitmentChange.{CommitmentChange}
-use Rattle.decisions.specs.Changes.{change_for, change_of}
+use Rattle.decisions.specs.Changes.{change_of}
 use Rattle.decisions.proofs.change_of.Goals as goal
 
-in_parts : (k : CommitmentKind) (x : CommitmentCall)
-    → ◌≡◌ {A = CommitmentChange} (record { hour = x.hour; from = x.unit; to = (change_for k x).to; out = (change_for k x).out; into = (change_for k x).into; same = (change_for k x).same })
-    (change_for k x)
-in_parts Take x = refl
-in_parts Release x = refl
-in_parts Move x = refl
-
-pub returns : goal.returns
+pub returns-in-Take : goal.returns-in-Take
 unfolding change_of
-returns c =
-    rw (c.given_by-out.ensures, c.got_by-into.ensures, c.getter.ensures, c.same_units.ensures)
-    (in_parts c.args.call.kind c.args.call)
+returns-in-Take c = rw c.in-Take.is c.take_change.ensures
+
+pub returns-in-Release : goal.returns-in-Release
+unfolding change_of
+returns-in-Release c = rw c.in-Release.is c.release_change.ensures
+
+pub returns-in-Move : goal.returns-in-Move
+unfolding change_of
+returns-in-Move c = rw c.in-Move.is c.move_change.ensures

@@ -12,24 +12,24 @@ returns-then-units_unknown c =
     later _ _ _ (sym c.hour_bad.ensures ∙ c.if-hour_bad.false)
     (first _ _ _ (sym c.units_unknown.ensures ∙ c.if-units_unknown.true))
 
-pub returns-then-change : goal.returns-then-change
-returns-then-change c =
+pub returns-then-same_units : goal.returns-then-same_units
+returns-then-same_units c =
     later _ _ _ (sym c.hour_bad.ensures ∙ c.if-hour_bad.false)
     (later _ _ _ (sym c.units_unknown.ensures ∙ c.if-units_unknown.false)
-    (first _ _ _ c.if-change.true))
+    (first _ _ _ (sym c.same_units.ensures ∙ c.if-same_units.true)))
 
 pub returns-then-settled : goal.returns-then-settled
 returns-then-settled c =
     later _ _ _ (sym c.hour_bad.ensures ∙ c.if-hour_bad.false)
     (later _ _ _ (sym c.units_unknown.ensures ∙ c.if-units_unknown.false)
-    (later _ _ _ c.if-change.false
+    (later _ _ _ (sym c.same_units.ensures ∙ c.if-same_units.false)
     (first _ _ _ c.if-settled.true)))
 
 pub returns-then-no_amount : goal.returns-then-no_amount
 returns-then-no_amount c =
     later _ _ _ (sym c.hour_bad.ensures ∙ c.if-hour_bad.false)
     (later _ _ _ (sym c.units_unknown.ensures ∙ c.if-units_unknown.false)
-    (later _ _ _ c.if-change.false
+    (later _ _ _ (sym c.same_units.ensures ∙ c.if-same_units.false)
     (later _ _ _ c.if-settled.false
     (first _ _ _ (sym c.no_amount.ensures ∙ c.if-no_amount.true)))))
 
@@ -37,7 +37,7 @@ pub returns-then-exceeds : goal.returns-then-exceeds
 returns-then-exceeds c =
     later _ _ _ (sym c.hour_bad.ensures ∙ c.if-hour_bad.false)
     (later _ _ _ (sym c.units_unknown.ensures ∙ c.if-units_unknown.false)
-    (later _ _ _ c.if-change.false
+    (later _ _ _ (sym c.same_units.ensures ∙ c.if-same_units.false)
     (later _ _ _ c.if-settled.false
     (later _ _ _ (sym c.no_amount.ensures ∙ c.if-no_amount.false)
     (first _ _ _ (sym c.exceeds.ensures ∙ c.if-exceeds.true))))))
@@ -46,7 +46,7 @@ pub returns-then-over_offer : goal.returns-then-over_offer
 returns-then-over_offer c =
     later _ _ _ (sym c.hour_bad.ensures ∙ c.if-hour_bad.false)
     (later _ _ _ (sym c.units_unknown.ensures ∙ c.if-units_unknown.false)
-    (later _ _ _ c.if-change.false
+    (later _ _ _ (sym c.same_units.ensures ∙ c.if-same_units.false)
     (later _ _ _ c.if-settled.false
     (later _ _ _ (sym c.no_amount.ensures ∙ c.if-no_amount.false)
     (later _ _ _ (sym c.exceeds.ensures ∙ c.if-exceeds.false)
@@ -56,7 +56,7 @@ pub returns : goal.returns
 returns c =
     later _ _ _ (sym c.hour_bad.ensures ∙ c.if-hour_bad.false)
     (later _ _ _ (sym c.units_unknown.ensures ∙ c.if-units_unknown.false)
-    (later _ _ _ c.if-change.false
+    (later _ _ _ (sym c.same_units.ensures ∙ c.if-same_units.false)
     (later _ _ _ c.if-settled.false
     (later _ _ _ (sym c.no_amount.ensures ∙ c.if-no_amount.false)
     (later _ _ _ (sym c.exceeds.ensures ∙ c.if-exceeds.false)

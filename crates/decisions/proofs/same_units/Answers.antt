@@ -1,16 +1,9 @@
--- Whether a move has one unit, kind by kind, as the definition says.
+-- Where it is a move, the test is that of its units.
 -- Assumes nothing.
-use Rattle.decisions.specs.Changes.{change_of}
 use Rattle.decisions.proofs.same_units.Goals as goal
 
-pub returns-in-Take : goal.returns-in-Take
-unfolding change_of
-returns-in-Take c = rw c.in-Take.is
+pub returns-then-change : goal.returns-then-change
+returns-then-change c = simp c.if-change.true
 
-pub returns-in-Release : goal.returns-in-Release
-unfolding change_of
-returns-in-Release c = rw c.in-Release.is
-
-pub returns-in-Move : goal.returns-in-Move
-unfolding change_of
-returns-in-Move c = rw c.in-Move.is
+pub returns : goal.returns
+returns c = simp c.if-change.false

@@ -2,22 +2,21 @@
 -- Assumes nothing.
 use mathlib.Core.Path.{◌≡◌, sym, ap, ◌∙◌, subst}
 use mathlib.Core.List.{List}
-use mathlib.Core.Logic.{⊎_elim}
-use Prim.Native.Nat.{ℕ, ◌+◌, ◌-◌, ◌<◌, min}
+use Prim.Native.Nat.{ℕ, ◌+◌, ◌-◌, ◌<◌, ◌≤◌, min}
 use native.Mathlib.Omega.{arith}
 use lib.ListN.{get_or, set}
-use Rattle.record.specs.Spans.{span_at}
+use Rattle.record.specs.declared.Span.{Span}
+use Rattle.record.specs.Spans.{counted_kind, span_at}
+use Rattle.record.specs.InRange.{SpanInRange}
 use Rattle.record.proofs.Counted.{counted_in as kind-in}
 use Rattle.formulas.specs.Items.{first_kind, kinds}
 use Rattle.deviation.proofs.Weights.{short_most, part_most, Counted, counted_none, counted_in, counted_out, counted_all}
-use Rattle.deviation.proofs.proportions.Goals.{After-counted_kind-kind, Then-kind-ge2}
+use Rattle.deviation.proofs.proportions.Goals.{then-kind-ge2, else-kind-ge2}
 use Rattle.deviation.proofs.proportions.Goals as goal
 
 -- the kind that a span counts as, from kind 2 on, has a place
-place : (c : Then-kind-ge2) → c.counted_kind-kind.result - first_kind < kinds
-place c =
-    let i = c.loop-i.i in
-    omega (arith, c.counted_kind-kind.ensures, kind-in (span_at c.args.u i) (c.requires.1.span i (omega arith)))
+place : (s : Span) (kind : ℕ) → SpanInRange s → kind ≡ counted_kind s → first_kind ≤ kind → kind - first_kind < kinds
+place s kind h e l = omega (arith, kind-in s h)
 
 pub loop-i-init : goal.loop-i-init
 loop-i-init c = (omega arith, counted_none c.args.own c.args.u)
@@ -32,10 +31,10 @@ pub short_minutes-more-requires : goal.short_minutes-more-requires
 short_minutes-more-requires c = (c.requires.0, c.requires.1.test, c.requires.1.span c.loop-i.i (omega arith))
 
 pub offset_bounds-sums-j : goal.offset_bounds-sums-j
-offset_bounds-sums-j c = let p = place (goal.at.offset_bounds-sums-j c).Then-kind-ge2 in omega arith
+offset_bounds-sums-j c = let p = place (span_at c.args.u c.loop-i.i) c.counted_kind-kind.result (c.requires.1.span c.loop-i.i (omega arith)) c.counted_kind-kind.ensures (omega arith) in omega arith
 
 pub bounds-sums-j : goal.bounds-sums-j
-bounds-sums-j c = let p = place (goal.at.bounds-sums-j c).Then-kind-ge2 in omega arith
+bounds-sums-j c = let p = place (span_at c.args.u c.loop-i.i) c.counted_kind-kind.result (c.requires.1.span c.loop-i.i (omega arith)) c.counted_kind-kind.ensures (omega arith) in omega arith
 
 pub overflow_add-sums : goal.overflow_add-sums
 overflow_add-sums c =
@@ -45,12 +44,12 @@ overflow_add-sums c =
       arith,
       c.short_minutes-more.ensures,
       short_most c.args.own c.args.u.test (span_at c.args.u l.i) c.requires.1.test (c.requires.1.span l.i (omega arith)),
-      l.invariant.1.kind k (place (goal.at.overflow_add-sums c).Then-kind-ge2),
+      l.invariant.1.kind k (place (span_at c.args.u c.loop-i.i) c.counted_kind-kind.result (c.requires.1.span c.loop-i.i (omega arith)) c.counted_kind-kind.ensures (omega arith)),
       part_most c.args.own c.args.u c.requires.1 (first_kind + k) l.i (omega arith),
     )
 
 pub bounds-sums-j-then-kind-ge2 : goal.bounds-sums-j-then-kind-ge2
-bounds-sums-j-then-kind-ge2 c = let p = place (goal.at.bounds-sums-j-then-kind-ge2 c).Then-kind-ge2 in omega arith
+bounds-sums-j-then-kind-ge2 c = let p = place (span_at c.args.u c.loop-i.i) c.counted_kind-kind.result (c.requires.1.span c.loop-i.i (omega arith)) c.counted_kind-kind.ensures (omega arith) in omega arith
 
 pub loop-i-preserved : goal.loop-i-preserved
 loop-i-preserved c =
@@ -58,19 +57,19 @@ loop-i-preserved c =
     let u = c.args.u in
     let l = c.loop-i in
     let kind = c.counted_kind-kind.ensures in
-    ⊎_elim
-    (λ w. (
-      omega arith,
-      subst (λ (x : List ℕ). Counted own u (l.i + 1) x)
-          (sym (w.2 ∙ ap (λ (n : ℕ). set l.sums (c.counted_kind-kind.result - first_kind) (get_or l.sums (c.counted_kind-kind.result - first_kind) 0 + n)) w.1.ensures))
-          (counted_in own u l.i l.sums l.invariant.1 (c.counted_kind-kind.result - first_kind)
-          (place (record { before = (goal.at.loop-i-preserved c).After-counted_kind-kind; if1 = w.0 })) (sym kind ∙ omega arith)),
-    ))
-    (λ w. (
-      omega arith,
-      subst (λ (x : List ℕ). Counted own u (l.i + 1) x) (sym w.1) (counted_out own u l.i l.sums l.invariant.1 (omega (arith, kind, w.0.left))),
-    ))
-    c.if-kind-ge2.branch
+    elim c.if-kind-ge2.branch [
+      | then-kind-ge2 w ↦ (
+        omega arith,
+        subst (λ (x : List ℕ). Counted own u (l.i + 1) x)
+            (sym (w.sums-is ∙ ap (λ (n : ℕ). set l.sums (c.counted_kind-kind.result - first_kind) (get_or l.sums (c.counted_kind-kind.result - first_kind) 0 + n)) w.short_minutes-more.ensures))
+            (counted_in own u l.i l.sums l.invariant.1 (c.counted_kind-kind.result - first_kind)
+            (place (span_at c.args.u c.loop-i.i) c.counted_kind-kind.result (c.requires.1.span c.loop-i.i (omega arith)) c.counted_kind-kind.ensures (omega arith)) (sym kind ∙ omega arith)),
+      )
+      | else-kind-ge2 w ↦ (
+        omega arith,
+        subst (λ (x : List ℕ). Counted own u (l.i + 1) x) (sym w.sums-is) (counted_out own u l.i l.sums l.invariant.1 (omega (arith, kind, w.if-kind-ge2.false))),
+      )
+    ]
 
 pub returns : goal.returns
 returns c =

@@ -21,9 +21,12 @@ store_amounts-requires c =
     (p.hour_in, p.amounts_long, p.five (not-false _ c.if-not-d.false))
 
 pub returns : goal.returns
-returns c = record { value = refl; by_index = λ commitment.
+returns c = record {
+  value = refl;
+  by_index = λ commitment.
       stored_done _ _ _ _ commitment _ _ _ _ _ _ _
       (not-false _ c.if-not-d.false)
       c.differ.ensures
       c.store_amounts.ensures
-      c.store_energies.ensures }
+      c.store_energies.ensures;
+}

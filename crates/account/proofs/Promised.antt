@@ -1,0 +1,52 @@
+-- A turn of the day is one call carried out, so what the day leaves is what its list of calls leaves, and the promise about every list of calls
+-- holds of it.
+-- Assumes nothing.
+use mathlib.Core.Path.{◌≡◌, refl, sym, ap, ◌∙◌, subst}
+use mathlib.Core.Bool.{Bool, true, false, cond}
+use mathlib.Core.List.{List, []}
+use Prim.Native.Nat.{ℕ, zero, suc}
+use lib.Dec.{eqb}
+use lib.ListN.{replicate}
+use Rattle.sheet.specs.declared.Sheet.{Sheet}
+use Rattle.postings.specs.Journal.{no_posting}
+use Rattle.ledger.specs.Requests.{call_for}
+use Rattle.ledger.specs.Calls.{State, carried_out, request_of, ran_from, begun as begun_state}
+use Rattle.ledger.specs.Demand.{Demand}
+use Rattle.ledger.proofs.Promise.{promise}
+use Rattle.single.specs.Journal.{performed}
+use Rattle.account.specs.Day.{day_after, Running, turned, ran_to, ran_out, calls_to, state_of, begun, day_calls}
+
+module _ (sheet : Sheet) (text : List ℕ) where
+  pub turn_state : (r : Running) → state_of (turned sheet text r) ≡ (carried_out sheet (state_of r) (request_of sheet (call_for text r.day.asked))).state
+  unfolding turned day_after performed carried_out
+  turn_state r = refl
+
+  by_end : (t : Bool) (r : Running) (k : ℕ) → state_of (ran_to sheet text k r) ≡ (ran_from sheet (state_of r) (calls_to sheet text k r)).state
+      → state_of (cond t r (ran_to sheet text k r)) ≡ (ran_from sheet (state_of r) (cond t [] (calls_to sheet text k r))).state
+  unfolding ran_from
+  by_end true r k e = refl
+  by_end false r k e = e
+
+  -- the state after the turns is that after their calls
+  run_state : (k : ℕ) (r : Running) → state_of (ran_to sheet text k r) ≡ (ran_from sheet (state_of r) (calls_to sheet text k r)).state
+  unfolding ran_to calls_to ran_from
+  run_state zero r = refl
+  run_state (suc k) r =
+      let t = turned sheet text r in
+      let last = eqb t.day.left 0 in
+      by_end last t k (run_state k t)
+      ∙ ap (λ (st : State). (ran_from sheet st (cond last [] (calls_to sheet text k t))).state) (turn_state r)
+
+  start_state : (at : ℕ) → state_of (begun text at) ≡ begun_state (replicate 2000 no_posting)
+  unfolding begun
+  start_state at = refl
+
+  -- the promise about every list of calls, of the day's
+  pub day_demand : (at : ℕ) → Demand sheet (replicate 2000 no_posting) (day_calls sheet text at)
+      (ran_from sheet (begun_state (replicate 2000 no_posting)) (day_calls sheet text at)).replies (state_of (ran_out sheet text (begun text at)))
+  day_demand at =
+      let calls = day_calls sheet text at in
+      let journal = replicate 2000 no_posting in
+      subst (λ (st : State). Demand sheet journal calls (ran_from sheet (begun_state journal) calls).replies st)
+      (sym (run_state (begun text at).day.left (begun text at) ∙ ap (λ (st : State). (ran_from sheet st calls).state) (start_state at)))
+      (promise sheet journal calls)

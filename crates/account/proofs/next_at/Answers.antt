@@ -1,0 +1,34 @@
+-- Each return is a case of the definition: past the end, no LF, a take, a record, another key.
+-- Assumes nothing.
+use Prim.Native.Nat.{◌+◌}
+use mathlib.Core.Path.{sym, ap, ◌∙◌}
+use Rattle.text.specs.declared.Row.{Row}
+use Rattle.text.specs.declared.Line.{Line}
+use Rattle.values.specs.Values.{value_of}
+use Rattle.account.specs.Day.{take_row, take_of}
+use Rattle.account.proofs.Reading.{past_end, unended, take_line, record_line, other_line}
+use Rattle.account.proofs.next_at.Goals as goal
+
+pub returns-then-text-at : goal.returns-then-text-at
+returns-then-text-at c = past_end c.args.text.now c.args.at c.if-text-at.true
+
+pub returns-then-text-e : goal.returns-then-text-e
+returns-then-text-e c = unended c.args.text.now c.args.at c.if-text-at.false c.find-e.result c.find-e.ensures c.if-text-e.true
+
+pub returns-then-key_is : goal.returns-then-key_is
+returns-then-key_is c =
+    let v = c.value_of.result in
+    c.take_of.ensures
+    ∙ (ap (λ (l : Line). take_of l (c.find-e.result + 1))
+    (c.read_value-l.ensures
+    ∙ (ap (λ (r : Row). value_of r v.now) c.take_row.ensures ∙ ap (value_of take_row) c.value_of.ensures))
+    ∙ take_line c.args.text.now c.args.at c.if-text-at.false c.find-e.result c.find-e.ensures c.if-text-e.false (sym c.key_is.ensures ∙ c.if-key_is.true))
+
+pub returns-then-key_is-2 : goal.returns-then-key_is-2
+returns-then-key_is-2 c =
+    c.settle_at.ensures
+    ∙ record_line c.args.text.now c.args.at c.if-text-at.false c.find-e.result c.find-e.ensures c.if-text-e.false (sym c.key_is.ensures ∙ c.if-key_is.false) (sym c.key_is-2.ensures ∙ c.if-key_is-2.true)
+
+pub returns : goal.returns
+returns c =
+    other_line c.args.text.now c.args.at c.if-text-at.false c.find-e.result c.find-e.ensures c.if-text-e.false (sym c.key_is.ensures ∙ c.if-key_is.false) (sym c.key_is-2.ensures ∙ c.if-key_is-2.false)
