@@ -1,5 +1,6 @@
 // What the lines of a unit in an hour record say: the numbers, and what blank means at each place.
 #![tactic(auto)]
+
 ghost use Rattle.std.specs.Prelude.{◌≡◌, ◌^◌, ◌≤◌, ◌<◌};
 ghost use Rattle.finite.specs.Finite.{tabulate};
 ghost use Rattle.lines.specs.Cells.{line_in};

@@ -1,30 +1,29 @@
 // Prints, for each file that the arguments name, its name on a line and then what `replay` prints for its bytes.
 #![tactic(auto)]
-use libc::STDOUT_FILENO;
 
-fn file_of(i: usize) {
-    let mut name = io::buffer();
-    let length = os::arg(i, &mut name);
-    let file = os::open_read(&name[..length]);
-    if file < 0 {
-        os::fail(&name[..length]);
-        return;
-    }
-    let mut text = [0u8; 70000];
-    let size = io::read_full(file, &mut text);
-    libc::close(file);
-    io::write_all(STDOUT_FILENO, &name[..length]);
-    io::write_all(STDOUT_FILENO, b"\n");
-    let mut out = [0u8; 400000];
-    let n = daybook::replay_of(&text[..size], &mut out);
-    io::write_all(STDOUT_FILENO, &out[..n]);
+use std::io::{BufWriter, Write};
+use std::rt::Files;
+use std::{env, fs, io};
+
+fn file_of<R: Files + Eprint + Alloc, W: Write>(rt: &R, out: &mut W, name: &str) -> io::Result<()> {
+    let mut file = match fs::open(rt, name) {
+        Ok(file) => file,
+        Err(error) => return eprintln!(rt; "{name}: {error}"),
+    };
+    let mut text = vec![in rt.alloc(); 0u8; 70000]?;
+    let size = file_bytes::read_full(&mut file, &mut text);
+    text.truncate(size);
+    writeln!(out, "{name}")?;
+    let mut bytes = vec![in rt.alloc(); 0u8; 400000]?;
+    let n = daybook::replay_of(&text, &mut bytes);
+    bytes.truncate(n);
+    out.write_all(&bytes)
 }
 
-fn main() {
-    let n = os::arg_count();
-    let mut i: usize = 1;
-    while i < n {
-        file_of(i);
-        i += 1;
+fn main(rt: HostRuntime) -> io::Result<()> {
+    let mut out = BufWriter::new(rt.alloc(), io::writer(&rt))?;
+    for name in env::args(&rt)?.skip(1) {
+        file_of(&rt, &mut out, name.as_str())?;
     }
+    out.flush()
 }

@@ -2,45 +2,53 @@
 // sheet from place 0, then a record at each line behind it that begins `hour=`, at the text's end, and one past it. Then it prints of each file
 // its name and its statement.
 #![tactic(auto)]
+
 use energy::GrossKwh;
-use libc::STDOUT_FILENO;
 use lines::{ReadAnswer, TextRefusal};
+use std::io::{BufWriter, Write};
+use std::rt::Files;
+use std::{env, fs, io};
 
-fn say(words: &[u8]) {
-    io::write_all(STDOUT_FILENO, words);
+fn say<W: Write>(out: &mut W, words: &[u8]) -> io::Result<()> {
+    out.write_all(words)
 }
 
-fn say_number(n: u64) {
-    io::print_decimal(STDOUT_FILENO, n);
+fn say_number<W: Write>(out: &mut W, n: u64) -> io::Result<()> {
+    write!(out, "{n}")
 }
 
-fn say_refusal(refusal: TextRefusal) {
-    say(b" refused ");
-    say_number(lines::text_number(refusal));
-    say(b" ");
-    say_number(lines::text_line(refusal));
-    say(b"\n");
+fn say_refusal<W: Write>(out: &mut W, refusal: TextRefusal) -> io::Result<()> {
+    say(out, b" refused ")?;
+    say_number(out, lines::text_number(refusal))?;
+    say(out, b" ")?;
+    say_number(out, lines::text_line(refusal))?;
+    say(out, b"\n")
 }
 
 // A record at a place.
-fn record_at(name: &[u8], text: &[u8], at: u64, units: u64, monthly: [GrossKwh; 8]) {
-    say(name);
-    say(b" record ");
-    say_number(at);
+fn record_at<W: Write>(
+    out: &mut W,
+    name: &[u8],
+    text: &[u8],
+    at: u64,
+    units: u64,
+    monthly: [GrossKwh; 8],
+) -> io::Result<()> {
+    say(out, name)?;
+    say(out, b" record ")?;
+    say_number(out, at)?;
     let read = record_text::read_record(text, at, units, monthly);
     let answer = read.answer;
     let found = read.read;
     match answer {
         ReadAnswer::Read(place) => {
-            say(b" read ");
-            say_number(place);
-            say(b" hour ");
-            say_number(found.hour);
-            say(b"\n");
+            say(out, b" read ")?;
+            say_number(out, place)?;
+            say(out, b" hour ")?;
+            say_number(out, found.hour)?;
+            say(out, b"\n")
         }
-        ReadAnswer::Refused(refusal) => {
-            say_refusal(refusal);
-        }
+        ReadAnswer::Refused(refusal) => say_refusal(out, refusal),
     }
 }
 
@@ -61,80 +69,92 @@ fn hour_at(text: &[u8], at: usize) -> bool {
 }
 
 // The records of a text, behind its sheet.
-fn records_of(name: &[u8], text: &[u8], from: usize, units: u64, monthly: [GrossKwh; 8]) {
-    let mut at = from;
-    while at < text.len() {
+fn records_of<W: Write>(
+    out: &mut W,
+    name: &[u8],
+    text: &[u8],
+    from: usize,
+    units: u64,
+    monthly: [GrossKwh; 8],
+) -> io::Result<()> {
+    for at in from..text.len() {
         if hour_at(text, at) {
-            record_at(name, text, at as u64, units, monthly);
+            record_at(out, name, text, at as u64, units, monthly)?;
         }
-        at += 1;
     }
-    record_at(name, text, text.len() as u64, units, monthly);
-    record_at(name, text, text.len() as u64 + 1, units, monthly);
+    record_at(out, name, text, text.len() as u64, units, monthly)?;
+    record_at(out, name, text, text.len() as u64 + 1, units, monthly)
 }
 
-fn sheet_of(name: &[u8], text: &[u8]) {
-    say(name);
-    say(b" sheet");
+fn sheet_of<W: Write>(out: &mut W, name: &[u8], text: &[u8]) -> io::Result<()> {
+    say(out, name)?;
+    say(out, b" sheet")?;
     let read = sheet_text::read_sheet(text, 0);
     let answer = read.answer;
     let found = read.sheet;
     match answer {
         ReadAnswer::Read(place) => {
-            say(b" read ");
-            say_number(place);
-            say(b"\n");
+            say(out, b" read ")?;
+            say_number(out, place)?;
+            say(out, b"\n")?;
             records_of(
+                out,
                 name,
                 text,
                 place as usize,
                 found.units,
                 sheet::monthly_of(found),
-            );
+            )
         }
-        ReadAnswer::Refused(refusal) => {
-            say_refusal(refusal);
-        }
+        ReadAnswer::Refused(refusal) => say_refusal(out, refusal),
     }
 }
 
-fn statement_of(name: &[u8], text: &[u8]) {
-    let mut out = [0u8; 32768];
-    let n = account::statement_of(text, &mut out);
-    say(name);
-    say(b"\n");
-    say(&out[..n]);
+fn statement_of<W: Write>(out: &mut W, name: &[u8], text: &[u8]) -> io::Result<()> {
+    let mut bytes = [0u8; 32768];
+    let n = account::statement_of(text, &mut bytes);
+    say(out, name)?;
+    say(out, b"\n")?;
+    say(out, &bytes[..n])
 }
 
-// File i: what is read of it, or its statement.
-fn file_of(i: usize, readings: bool) {
-    let mut name = io::buffer();
-    let length = os::arg(i, &mut name);
-    let file = os::open_read(&name[..length]);
-    if file < 0 {
-        os::fail(&name[..length]);
-        return;
-    }
-    let mut text = [0u8; 65537];
-    let size = io::read_full(file, &mut text);
-    libc::close(file);
+// A file: what is read of it, or its statement.
+fn file_of<R: Files + Eprint + Alloc, W: Write>(
+    rt: &R,
+    out: &mut W,
+    name: &str,
+    readings: bool,
+) -> io::Result<()> {
+    let mut file = match fs::open(rt, name) {
+        Ok(file) => file,
+        Err(error) => return eprintln!(rt; "{name}: {error}"),
+    };
+    let mut text = vec![in rt.alloc(); 0u8; 65537]?;
+    let size = file_bytes::read_full(&mut file, &mut text);
+    text.truncate(size);
     if readings {
-        sheet_of(&name[..length], &text[..size]);
+        sheet_of(out, name.as_bytes(), &text)
     } else {
-        statement_of(&name[..length], &text[..size]);
+        statement_of(out, name.as_bytes(), &text)
     }
 }
 
-fn files(n: usize, readings: bool) {
-    let mut i: usize = 1;
-    while i < n {
-        file_of(i, readings);
-        i += 1;
+fn files<R: Files + Eprint + Alloc, W: Write>(
+    rt: &R,
+    out: &mut W,
+    names: &[String],
+    readings: bool,
+) -> io::Result<()> {
+    for name in names {
+        file_of(rt, out, name.as_str(), readings)?;
     }
+    Ok(())
 }
 
-fn main() {
-    let n = os::arg_count();
-    files(n, true);
-    files(n, false);
+fn main(rt: HostRuntime) -> io::Result<()> {
+    let names: Vec<String> = env::args(&rt)?.skip(1).collect(rt.alloc())?;
+    let mut out = BufWriter::new(rt.alloc(), io::writer(&rt))?;
+    files(&rt, &mut out, &names, true)?;
+    files(&rt, &mut out, &names, false)?;
+    out.flush()
 }

@@ -6,7 +6,7 @@ use mathlib.Core.Bool.{Bool, true, false}
 use mathlib.Core.List.{List, ◌∷◌}
 use Prim.Native.Nat.{ℕ, ◌+◌, ◌-◌, ◌/◌, ◌%◌, ◌≤◌, ◌<◌}
 use native.Mathlib.Omega.{arith}
-use borrow.Author.Tests.{eqb-false, not-false}
+use borrow.Author.Tests.{not-false}
 use lib.Dec.{eqb}
 use lib.IntN.{ℤ}
 use lib.ListN.{length, get_or, set, length-set}
@@ -215,7 +215,7 @@ module _ (terms : DayTerms) (offers : List ℕ) (t : Table) (entry count journal
             let i = (entry_in s.units hour from h f).0 in
             let j = (entry_in s.units hour to h g).0 in
             let d : entry_index hour to ≡ entry_index hour from → ⊥ =
-            λ e. entries_apart (hour - 1) from to (member s.units from f).least (member s.units to g).least (eqb-false from to p.apart) (sym j ∙ e ∙ i) in
+            λ e. entries_apart (hour - 1) from to (member s.units from f).least (member s.units to g).least (p.apart refl) (sym j ∙ e ∙ i) in
             let given : List ℕ = set t.commitment (entry_index hour from) (held hour from - kwh) in
             let n : length given ≡ entries = length-set t.commitment (entry_index hour from) (held hour from - kwh) ∙ long.commitment in
             rw (shifted_two t.commitment (entry_index hour from) (entry_index hour to) kwh kwh d)

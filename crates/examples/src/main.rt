@@ -1,6 +1,7 @@
 // Runs worked examples of the sources (000 and 001) that the scope document reproduces, and prints a line for each: the example's
 // number, then its figures. The sources have no example of kind 8; those of it here were worked out by hand.
 #![tactic(auto)]
+
 ghost use Rattle.std.specs.Prelude.{◌≡◌, true, ℕ, ◌≤◌, ◌<◌, get_or};
 ghost use Rattle.offer.specs.Offer.{offer_holds};
 ghost use Rattle.allocation.specs.Allocation.{PlantHolds};

@@ -19,7 +19,7 @@ use Rattle.settlement.proofs.Amounts.TheLaws as A'
 use Rattle.state.specs.contracts.Book as B
 use Rattle.state.proofs.Book.TheLaws as B'
 
-pub five_each : (xs : List Amounts) (us : List Val) → shadow (each (A.the_field).row.Denot (A.the_field).row.own_val (map (A.the_field).into xs) us)
+pub five_each : (xs : List Amounts) (us : List Val) → shadow (each (A.the_row).Denot (A.the_row).own_val xs us)
     → (j : ℕ) → j < length xs → length (get_or xs j past_amounts).item ≡ items
 five_each [] us s j l = absurd (omega arith)
 five_each (x ∷ xs) [] s j l = absurd s

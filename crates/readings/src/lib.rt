@@ -1,5 +1,6 @@
 // The test of a record's readings against the plant's `net`.
 #![tactic(auto)]
+
 ghost use Rattle.std.specs.Prelude.{◌≡◌, true, cond};
 ghost use Rattle.units.specs.Units.{member_at};
 ghost use Rattle.record.specs.InRange.{InRange};

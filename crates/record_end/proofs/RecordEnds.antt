@@ -6,16 +6,15 @@ use mathlib.Core.Bool.{Bool, true, false, cond, true≢false}
 use mathlib.Core.List.{List, [], ◌∷◌}
 use Prim.Native.Nat.{ℕ, zero, suc, ◌+◌, ◌*◌, ◌-◌, ◌%◌, ◌≤◌, ◌<◌}
 use native.Mathlib.Omega.{arith}
-use borrow.Author.Tests.{lt-ltb, le-ltb, ltb-true, ltb-false, eqb-true, eqb-false, eq-eqb, ne_eqb}
+use borrow.Author.Tests.{lt-ltb, le-ltb, ltb-true, eqb-true, eqb-false, ne_eqb}
 use lib.Dec.{eqb, ltb}
-use lib.ListN.{length, drop, take, get_or, length-drop}
+use lib.ListN.{length, drop, get_or, length-drop}
 use Rattle.finite.specs.Finite.{every}
 use Rattle.finite.proofs.Tests.{every_at}
 use Rattle.energy.specs.declared.GrossKwh.{GrossKwh}
 use Rattle.text.specs.Text.{seek, before, has, value_part, word_is, key_is}
 use Rattle.text.specs.Rows.{word, no_line}
 use Rattle.values.specs.Values.{value_of}
-use Rattle.text.specs.declared.Line.{Line}
 use Rattle.text.specs.declared.Row.{Row}
 use Rattle.lines.specs.Lines.{Reading, begin, line_at, place_after, read_line, read_by}
 use Rattle.lines.proofs.Reading.{refused_stays, line_refused, line_taken}

@@ -1,5 +1,6 @@
 // Where an hour record ends in a text: behind the first line, from the record's first byte on, that is exactly `end=hour`.
 #![tactic(auto)]
+
 ghost use Rattle.std.specs.Prelude.{◌≡◌};
 ghost use Rattle.record_end.specs.End.{is_end, behind_record};
 

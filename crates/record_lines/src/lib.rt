@@ -1,5 +1,6 @@
 // The lines of an hour record: the row due at each place, and their reading.
 #![tactic(auto)]
+
 ghost use Rattle.std.specs.Prelude.{◌≡◌, ◌≤◌, ◌<◌, get_or};
 ghost use Rattle.lines.specs.Cells.{Blank, Shows};
 ghost use Rattle.record_lines.specs.Rows.{head_rows, unit_rows, spans_row, end_row, row_at, read_lines};

@@ -1,5 +1,6 @@
 // The hour record in a text: its reader.
 #![tactic(auto)]
+
 ghost use Rattle.std.specs.Prelude.{◌≡◌};
 ghost use Rattle.lines.specs.Cells.{line_in};
 ghost use Rattle.record_text.specs.Hour.{record_by, read_record};

@@ -1,5 +1,6 @@
 // An hour's settlement: the five items of each unit, the hour's energies and amounts, and the test of a record's proportions.
 #![tactic(auto)]
+
 ghost use Rattle.std.specs.Prelude.{◌≡◌, true, cond, ℕ, ◌≤◌};
 ghost use Rattle.finite.specs.Finite.{tabulate};
 ghost use Rattle.units.specs.Units.{member_at, is_lowest};

@@ -1,5 +1,6 @@
 // The lines of a day sheet: the row due at each place, and their reading.
 #![tactic(auto)]
+
 ghost use Rattle.std.specs.Prelude.{◌≡◌, ◌+◌, ◌^◌, ◌≤◌, ◌<◌, length, get_or};
 ghost use Rattle.std.specs.Int.Count.{ones};
 ghost use Rattle.lines.specs.Lines.{Reading, read_by};

@@ -1,5 +1,6 @@
 // The day sheet in a text: its reader.
 #![tactic(auto)]
+
 ghost use Rattle.std.specs.Prelude.{◌≡◌, ◌^◌, ◌≤◌, ◌<◌};
 ghost use Rattle.lines.specs.Cells.{line_in};
 ghost use Rattle.sheet_text.specs.Day.{offer_by, unit_by, place_by, sheet_by, read_sheet};

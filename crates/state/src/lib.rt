@@ -1,5 +1,6 @@
 // The book: how it is read and written, and what refusal 12 asks of it. Hours and places are counted from 0 here.
 #![tactic(auto)]
+
 ghost use Rattle.std.specs.Prelude.{◌≡◌, false, ℕ, ◌^◌, ◌<◌, length, get_or};
 ghost use Rattle.finite.specs.Finite.{every};
 ghost use Rattle.units.specs.Units.{member_at};

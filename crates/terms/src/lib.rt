@@ -1,5 +1,6 @@
 // What settlements use of the sheet: the terms of a day, and those of an hour.
 #![tactic(auto)]
+
 ghost use Rattle.std.specs.Prelude.{◌≡◌, ℕ, ◌≤◌};
 ghost use Rattle.finite.specs.Finite.{tabulate};
 ghost use Rattle.sheet.specs.Ranges.{unit_at as sheet_unit};

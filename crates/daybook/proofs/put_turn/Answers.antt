@@ -16,7 +16,7 @@ unfolding turn_text
 returns c =
     let g = c.args in
     let o = output g.out.now g.at in
-    let o1 = output c.put_first_tables-a.new.0 c.put_first_tables-a.result in
+    let o1 = output c.put_first_tables-a.new.out c.put_first_tables-a.result in
     simp (le-ltb _ _ c.if-from-text.false)
     (then o o1 (first_tables g.stand.listed g.units g.o.book) (total_line g.asking.unit g.asking.item g.t.verdict g.t.sum) c.put_first_tables-a.ensures
     c.put_listed.ensures)

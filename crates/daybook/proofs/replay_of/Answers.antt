@@ -14,10 +14,10 @@ pub returns-in-Read : goal.returns-in-Read
 returns-in-Read c =
     let g = c.args in
     let o = output g.out.now 0 in
-    let e : output c.put_calls.new.0 c.put_calls.result ≡ written o (replayed g.text.now) = c.put_calls.ensures ∙ ap (written o) (read_printed g.text.now c.read_sheet-read.result _ c.read_sheet-read.ensures c.in-Read.is) in record { result_after = e; upper_bound = printed_within g.out.now c.put_calls.new.0 _ (replayed g.text.now) e }
+    let e : output c.put_calls.new.out c.put_calls.result ≡ written o (replayed g.text.now) = c.put_calls.ensures ∙ ap (written o) (read_printed g.text.now c.read_sheet-read.result _ c.read_sheet-read.ensures c.in-Read.is) in record { result_after = e; upper_bound = printed_within g.out.now c.put_calls.new.out _ (replayed g.text.now) e }
 
 pub returns-in-Refused : goal.returns-in-Refused
 returns-in-Refused c =
     let g = c.args in
     let o = output g.out.now 0 in
-    let e : output c.put_sheet_refused.new.0 c.put_sheet_refused.result ≡ written o (replayed g.text.now) = c.put_sheet_refused.ensures ∙ ap (written o) (refused_printed g.text.now c.read_sheet-read.result _ c.read_sheet-read.ensures c.in-Refused.is) in record { result_after = e; upper_bound = printed_within g.out.now c.put_sheet_refused.new.0 _ (replayed g.text.now) e }
+    let e : output c.put_sheet_refused.new.out c.put_sheet_refused.result ≡ written o (replayed g.text.now) = c.put_sheet_refused.ensures ∙ ap (written o) (refused_printed g.text.now c.read_sheet-read.result _ c.read_sheet-read.ensures c.in-Refused.is) in record { result_after = e; upper_bound = printed_within g.out.now c.put_sheet_refused.new.out _ (replayed g.text.now) e }

@@ -15,6 +15,6 @@ unfolding amount_field
 returns c =
     let g = c.args in
     let o = output g.out.now g.at in
-    let o1 = output c.put_byte-a.new.0 c.put_byte-a.result in
+    let o1 = output c.put_byte-a.new.out c.put_byte-a.result in
     (then o o1 (32 ∷ []) (signed g.z) (c.put_byte-a.ensures ∙ sym (written_one o 32))
     (c.put_signed.ensures ∙ ap (λ (z : ℤ). written o1 (signed z)) (to_z-of_z c.ranges.z)))

@@ -26,7 +26,7 @@ pub returns-in-Posted : goal.returns-in-Posted
 returns-in-Posted c =
     let g = c.args in
     let o = output g.out.now g.at in
-    posted_written o (output c.put_bytes-a.new.0 c.put_bytes-a.result) g.answer _ c.in-Posted.is c.put_bytes-a.ensures c.put_number.ensures
+    posted_written o (output c.put_bytes-a.new.out c.put_bytes-a.result) g.answer _ c.in-Posted.is c.put_bytes-a.ensures c.put_number.ensures
 
 pub returns-in-Refused : goal.returns-in-Refused
 unfolding answer_text

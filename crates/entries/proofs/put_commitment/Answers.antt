@@ -26,10 +26,10 @@ unfolding commitment_line
 returns c =
     let g = c.args in
     let o = output g.out.now g.at in
-    let o1 = output c.put_bytes-a.new.0 c.put_bytes-a.result in
-    let o2 = output c.put_field-b.new.0 c.put_field-b.result in
-    let o3 = output c.put_field-c.new.0 c.put_field-c.result in
-    let o4 = output c.put_field-d.new.0 c.put_field-d.result in
+    let o1 = output c.put_bytes-a.new.out c.put_bytes-a.result in
+    let o2 = output c.put_field-b.new.out c.put_field-b.result in
+    let o3 = output c.put_field-c.new.out c.put_field-c.result in
+    let o4 = output c.put_field-d.new.out c.put_field-d.result in
     let h : eqb (commitment_at g.book g.h g.k).0 0 ≡ false = ap (λ (x : HubKwh). eqb x.0 0) (sym c.commitment_at-held.ensures) ∙ (sym c.equals.ensures ∙ c.if-equals.false) in
     simp h
     (then o o1 (bytes "commitment") (field (g.h + 1) ++ (field (g.k + 1) ++ (field (commitment_at g.book g.h g.k).0 ++ ((10 ∷ []))))) c.put_bytes-a.ensures

@@ -13,6 +13,6 @@ unfolding field
 returns c =
     let g = c.args in
     let o = output g.out.now g.at in
-    let o1 = output c.put_byte-a.new.0 c.put_byte-a.result in
+    let o1 = output c.put_byte-a.new.out c.put_byte-a.result in
     (then o o1 (32 ∷ []) (digits g.n) (c.put_byte-a.ensures ∙ sym (written_one o 32))
     c.put_number.ensures)

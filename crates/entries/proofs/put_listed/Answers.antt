@@ -17,10 +17,10 @@ unfolding total_line
 returns-in-Accepted c =
     let g = c.args in
     let o = output g.out.now g.at in
-    let o1 = output c.put_bytes-a.new.0 c.put_bytes-a.result in
-    let o2 = output c.put_field-b.new.0 c.put_field-b.result in
-    let o3 = output c.put_field-c.new.0 c.put_field-c.result in
-    let o4 = output c.put_amount-d.new.0 c.put_amount-d.result in
+    let o1 = output c.put_bytes-a.new.out c.put_bytes-a.result in
+    let o2 = output c.put_field-b.new.out c.put_field-b.result in
+    let o3 = output c.put_field-c.new.out c.put_field-c.result in
+    let o4 = output c.put_amount-d.new.out c.put_amount-d.result in
     (then o o1 (bytes "total") (field g.unit ++ (field g.item ++ (amount_field g.t.sum ++ ((10 ∷ []))))) c.put_bytes-a.ensures
     (then o1 o2 (field g.unit) (field g.item ++ (amount_field g.t.sum ++ ((10 ∷ [])))) c.put_field-b.ensures
     (then o2 o3 (field g.item) (amount_field g.t.sum ++ ((10 ∷ []))) c.put_field-c.ensures

@@ -18,8 +18,8 @@ unfolding refusal_text
 returns-then-number-gt4 c =
     let g = c.args in
     let o = output g.out.now g.at in
-    let o1 = output c.put_bytes-a.new.0 c.put_bytes-a.result in
-    let o2 = output c.put_number-b.new.0 c.put_number-b.result in
+    let o1 = output c.put_bytes-a.new.out c.put_bytes-a.result in
+    let o2 = output c.put_number-b.new.out c.put_number-b.result in
     let h : 4 < refusal_number g.refusal = omega (arith, c.if-number-gt4.true, c.refusal_number-number.ensures) in
     simp (lt-ltb _ _ h) (then o o2 (bytes "refused=" ++ digits (refusal_number g.refusal)) []
     (then o o1 (bytes "refused=") (digits (refusal_number g.refusal)) c.put_bytes-a.ensures
@@ -31,9 +31,9 @@ unfolding refusal_text
 returns c =
     let g = c.args in
     let o = output g.out.now g.at in
-    let o1 = output c.put_bytes-a.new.0 c.put_bytes-a.result in
-    let o2 = output c.put_number-b.new.0 c.put_number-b.result in
-    let o3 = output c.put_bytes-c.new.0 c.put_bytes-c.result in
+    let o1 = output c.put_bytes-a.new.out c.put_bytes-a.result in
+    let o2 = output c.put_number-b.new.out c.put_number-b.result in
+    let o3 = output c.put_bytes-c.new.out c.put_bytes-c.result in
     let h : refusal_number g.refusal ≤ 4 = omega (arith, c.if-number-gt4.false, c.refusal_number-number.ensures) in
     simp (le-ltb _ _ h) (then o o2 (bytes "refused=" ++ digits (refusal_number g.refusal)) (bytes " line=" ++ digits (refusal_line g.refusal))
     (then o o1 (bytes "refused=") (digits (refusal_number g.refusal)) c.put_bytes-a.ensures

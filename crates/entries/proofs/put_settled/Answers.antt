@@ -18,7 +18,7 @@ unfolding settled_line
 returns-then-member_at c =
     let g = c.args in
     let o = output g.out.now g.at in
-    let o1 = output c.put_bytes-a.new.0 c.put_bytes-a.result in
+    let o1 = output c.put_bytes-a.new.out c.put_bytes-a.result in
     simp (sym c.member_at.ensures ∙ c.if-member_at.true)
     (then o o1 (bytes "settled ") (unit_line (g.h + 1) (g.k + 1) (energy_at g.book g.h g.k).0 (amounts_at g.book g.h g.k)) c.put_bytes-a.ensures
     (c.put_unit_line.ensures.result_after ∙ ap₂ (λ (e : HubGrains) (a : Amounts). written o1 (unit_line (g.h + 1) (g.k + 1) e.0 a)) c.energy_at-grains.ensures c.amounts_at-amounts.ensures))

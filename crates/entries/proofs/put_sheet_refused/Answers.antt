@@ -14,8 +14,8 @@ unfolding sheet_refused
 returns c =
     let g = c.args in
     let o = output g.out.now g.at in
-    let o1 = output c.put_bytes-a.new.0 c.put_bytes-a.result in
-    let o2 = output c.put_refusal-b.new.0 c.put_refusal-b.result in
+    let o1 = output c.put_bytes-a.new.out c.put_bytes-a.result in
+    let o2 = output c.put_refusal-b.new.out c.put_refusal-b.result in
     (then o o1 (bytes "sheet ") (refusal_text (Text g.refusal) ++ ((10 ∷ []))) c.put_bytes-a.ensures
     (then o1 o2 (refusal_text (Text g.refusal)) (10 ∷ []) c.put_refusal-b.ensures
     (c.put_byte.ensures ∙ sym (written_one o2 10))))

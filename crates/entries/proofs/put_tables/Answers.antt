@@ -10,6 +10,6 @@ unfolding tables
 returns c =
     let g = c.args in
     let o = output g.out.now g.at in
-    let o1 = output c.put_commitments-a.new.0 c.put_commitments-a.result in
+    let o1 = output c.put_commitments-a.new.out c.put_commitments-a.result in
     (then o o1 (commitment_lines g.book) (settled_hours g.units g.book) c.put_commitments-a.ensures
     c.put_settled_hours.ensures)

@@ -16,7 +16,7 @@ unfolding total_text
 returns-in-Accepted c =
     let g = c.args in
     let o = output g.out.now g.at in
-    let o1 = output c.put_bytes-a.new.0 c.put_bytes-a.result in
+    let o1 = output c.put_bytes-a.new.out c.put_bytes-a.result in
     (then o o1 (bytes "sum=") (signed g.t.sum) c.put_bytes-a.ensures
     (c.put_signed.ensures ∙ ap (λ (z : ℤ). written o1 (signed z)) (to_z-of_z (record { sfits = c.struct_told-1.given.1.0.1 })))) ∙ ap (λ (v : Verdict). written o (total_text v g.t.sum)) (sym c.in-Accepted.is)
 

@@ -18,8 +18,8 @@ unfolding item_field
 returns c =
     let g = c.args in
     let o = output g.out.now g.at in
-    let o1 = output c.put_byte-place.new.0 c.put_byte-place.result in record {
+    let o1 = output c.put_byte-place.new.out c.put_byte-place.result in record {
       result_after = then o o1 (32 ∷ []) (signed (item_of g.amounts g.i)) (c.put_byte-place.ensures ∙ sym (written_one o 32))
           (c.put_signed.ensures ∙ ap (λ (z : ℤ). written o1 (signed z)) (to_z-of_z (record { sfits = c.put_signed-arg-2-1.given })));
-      upper_bound = omega (arith, place_byte o o1 32 c.put_byte-place.ensures, place_most o1 (output c.put_signed.new.0 c.put_signed.result) (signed (item_of g.amounts g.i)) 20 (c.put_signed.ensures ∙ ap (λ (z : ℤ). written o1 (signed z)) (to_z-of_z (record { sfits = c.put_signed-arg-2-1.given }))) (signed_most (item_of g.amounts g.i) c.put_signed-arg-2-1.given));
+      upper_bound = omega (arith, place_byte o o1 32 c.put_byte-place.ensures, place_most o1 (output c.put_signed.new.out c.put_signed.result) (signed (item_of g.amounts g.i)) 20 (c.put_signed.ensures ∙ ap (λ (z : ℤ). written o1 (signed z)) (to_z-of_z (record { sfits = c.put_signed-arg-2-1.given }))) (signed_most (item_of g.amounts g.i) c.put_signed-arg-2-1.given));
     }

@@ -36,7 +36,7 @@ loop-j-preserved c =
     let old = get_or a.amounts.now (hour_items * a.h + l.j) (pos 0) in
     let taken = ap₂ (λ (x y : ℤ). x -ℤ y) (back new c.difference-arg-1.given) (back old c.difference-arg-in-loop-j-1.given) in
     pasting_next hour_items (difference_in a.amounts.now a.h a.new) a.rows.now a.at l.rows l.j _ l.invariant (omega arith) (omega arith)
-    (back _ c.difference.type-inv ∙ (c.difference.ensures ∙ taken))
+    (back _ c.difference.type_inv ∙ (c.difference.ensures ∙ taken))
 
 pub returns : goal.returns
 unfolding differences

@@ -7,7 +7,7 @@ use Rattle.formulas.proofs.Amounts.{fits, nat_abs_sub}
 use Rattle.numbers.proofs.difference.Goals as goal
 
 pub overflow_sub-result : goal.overflow_sub-result
-overflow_sub-result c = rw (to_z-of_z c.fits.new, to_z-of_z c.fits.old) (fits (c.args.new -ℤ c.args.old) (omega (arith, nat_abs_sub c.args.new c.args.old)))
+overflow_sub-result c = rw (to_z-of_z c.ranges.new, to_z-of_z c.ranges.old) (fits (c.args.new -ℤ c.args.old) (omega (arith, nat_abs_sub c.args.new c.args.old)))
 
 pub returns : goal.returns
-returns c = rw (to_z-of_z (sub-result c), to_z-of_z c.fits.new, to_z-of_z c.fits.old)
+returns c = rw (to_z-of_z (overflow_sub-result c), to_z-of_z c.ranges.new, to_z-of_z c.ranges.old)

@@ -6,7 +6,7 @@ use Rattle.numbers.proofs.Filling.{Filling}
 use Rattle.numbers.proofs.grains_of.Given as goal
 
 abbrev pub invariant-loop-j : goal.invariant-loop-j
-invariant-loop-j l = Filling entries (λ l.j. (get_or l.energy l.j no_grains).0) l.out l.j
+invariant-loop-j l = Filling entries (λ j. (get_or l.energy j no_grains).0) l.out l.j
 
 abbrev pub decreases-loop-j : goal.decreases-loop-j
 decreases-loop-j l = entries - l.j

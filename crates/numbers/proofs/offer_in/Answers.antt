@@ -5,17 +5,10 @@ use Prim.Native.Nat.{ℕ, ◌+◌, ◌*◌, ◌-◌}
 use mathlib.Core.List.{List}
 use native.Mathlib.Omega.{arith}
 use lib.ListN.{get_or}
-use Rattle.energy.specs.declared.HubKwh.{HubKwh}
 use Rattle.numbers.specs.Offers.{offer_size, offer_in}
+use Rattle.numbers.proofs.offer_in.Invariants.{quantity_in, price_in}
 use Rattle.numbers.proofs.Filling.{filling_none, filling_next, filling_all}
 use Rattle.numbers.proofs.offer_in.Goals as goal
-
--- the numbers of the offer at place j
-abbrev quantity_in : List ℕ → ℕ → ℕ → HubKwh
-quantity_in offers j i = record { 0 = get_or offers (offer_size * j + 1 + i) 0 }
-
-abbrev price_in : List ℕ → ℕ → ℕ → ℕ
-price_in offers j i = get_or offers (offer_size * j + 11 + i) 0
 
 pub loop-i-init : goal.loop-i-init
 loop-i-init c =

@@ -1,6 +1,17 @@
-use Prim.Native.Nat.{◌-◌}
+use Prim.Native.Nat.{ℕ, ◌+◌, ◌*◌, ◌-◌}
+use mathlib.Core.List.{List}
+use lib.ListN.{get_or}
+use Rattle.energy.specs.declared.HubKwh.{HubKwh}
+use Rattle.numbers.specs.Offers.{offer_size}
 use Rattle.numbers.proofs.Filling.{Filling}
 use Rattle.numbers.proofs.offer_in.Given as goal
+
+-- the numbers of the offer at place j
+abbrev pub quantity_in : List ℕ → ℕ → ℕ → HubKwh
+quantity_in offers j i = record { 0 = get_or offers (offer_size * j + 1 + i) 0 }
+
+abbrev pub price_in : List ℕ → ℕ → ℕ → ℕ
+price_in offers j i = get_or offers (offer_size * j + 11 + i) 0
 
 abbrev pub invariant-loop-i : goal.invariant-loop-i
 invariant-loop-i l =

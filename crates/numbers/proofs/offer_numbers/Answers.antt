@@ -13,7 +13,7 @@ pub loop-k-preserved : goal.loop-k-preserved
 loop-k-preserved c =
     let l = c.loop-k in
     let put = c.put_unit in
-    (omega arith, put.auto.0 ∙ l.invariant.1, placed_next _ l.k l.out put.new.0 (omega arith) put.ensures l.invariant.2)
+    (omega arith, put.auto.out ∙ l.invariant.1, placed_next _ l.k l.out put.new.out (omega arith) put.ensures l.invariant.2)
 
 pub returns : goal.returns
 returns c = let l = c.loop-k in placed_all _ l.k l.out (omega arith) l.invariant.1 l.invariant.2

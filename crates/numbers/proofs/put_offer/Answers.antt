@@ -13,7 +13,7 @@ put_quantities-requires c = simp length-set (omega arith)
 pub put_prices-requires : goal.put_prices-requires
 put_prices-requires c =
     let q = c.put_quantities in
-    let e : length q.new.0 ≡ length c.args.out.now = q.auto.0 ∙ simp length-set in
+    let e : length q.new.out ≡ length c.args.out.now = q.auto.out ∙ simp length-set in
     omega arith
 
 pub returns : goal.returns
@@ -21,7 +21,7 @@ returns c =
     let q = c.put_quantities in
     let p = c.put_prices in
     record {
-      stored = offer_put c.args.o c.args.at c.args.out.now q.new.0 p.new.0 c.requires q.ensures p.ensures;
-      quantities = simp length-map at c.well_formed.1.1.0.1.1.1.0.1.0.1;
+      stored = offer_put c.args.o c.args.at c.args.out.now q.new.out p.new.out c.requires q.ensures p.ensures;
+      quantities = search rules;
       prices = search rules;
     }

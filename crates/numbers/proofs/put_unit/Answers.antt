@@ -17,8 +17,8 @@ loop-h-preserved c =
     let l = c.loop-h in
     let put = c.put_offer in (
       omega arith,
-      put.auto.0 ∙ l.invariant.1,
-      unit_next c.args.k c.args.u l.h c.args.out.now l.out put.new.0 c.requires.0 (omega arith) (l.invariant.1 ∙ c.requires.1) put.ensures l.invariant.2,
+      put.auto.out ∙ l.invariant.1,
+      unit_next c.args.k c.args.u l.h c.args.out.now l.out put.new.out c.requires.0 (omega arith) (l.invariant.1 ∙ c.requires.1) put.ensures l.invariant.2,
     )
 
 pub returns : goal.returns

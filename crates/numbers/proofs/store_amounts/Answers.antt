@@ -10,6 +10,7 @@ use Rattle.state.specs.Book.{past_amounts}
 use Rattle.numbers.specs.Numbers.{amounts_of}
 use Rattle.numbers.proofs.Packed.{amounts_length}
 use Rattle.numbers.proofs.Stored.{StoredIn, stored_first, stored_next, stored_past, stored_whole, paste_amounts, paste_length}
+use Rattle.numbers.proofs.store_amounts.Goals.{then-member_at, else-member_at}
 use Rattle.numbers.proofs.store_amounts.Goals as goal
 
 pub loop-p-init : goal.loop-p-init
@@ -24,16 +25,16 @@ loop-p-preserved c =
     let at : entry_of a.h l.p < entries = omega arith in
     let long : length l.amounts ≡ items * entries = l.invariant.1 ∙ pre.1 in
     let new = get_or a.new l.p past_amounts in
-    ⊎_elim
-    (λ w.
-    let e = w.5 ∙ w.3.ensures in
-    stored_next amounts_of past_amounts a.h a.units a.new a.amounts.now l.p l.amounts l.invariant below
-    c.if-member_at.amounts pre.0 (sym c.member_at.ensures ∙ w.0.taken)
-    (ap length e ∙ paste_length l.amounts (entry_of a.h l.p) new long at) (ap amounts_of e ∙ paste_amounts l.amounts (entry_of a.h l.p) new long at (pre.2 l.p below)))
-    (λ w.
-    subst (StoredIn amounts_of past_amounts a.h a.units a.new a.amounts.now (l.p + 1)) (sym w.1)
-    (stored_past amounts_of past_amounts a.h a.units a.new a.amounts.now l.p l.amounts l.invariant below (sym c.member_at.ensures ∙ w.0.left)))
-    c.if-member_at.branch
+    elim c.if-member_at.branch [
+      | then-member_at w ↦
+          let e = w.amounts-is ∙ w.put_amounts.ensures in
+          stored_next amounts_of past_amounts a.h a.units a.new a.amounts.now l.p l.amounts l.invariant below
+          c.if-member_at.amounts pre.0 (sym c.member_at.ensures ∙ w.if-member_at.true)
+          (ap length e ∙ paste_length l.amounts (entry_of a.h l.p) new long at) (ap amounts_of e ∙ paste_amounts l.amounts (entry_of a.h l.p) new long at (pre.2 l.p below))
+      | else-member_at w ↦
+          subst (StoredIn amounts_of past_amounts a.h a.units a.new a.amounts.now (l.p + 1)) (sym w.amounts-is)
+          (stored_past amounts_of past_amounts a.h a.units a.new a.amounts.now l.p l.amounts l.invariant below (sym c.member_at.ensures ∙ w.if-member_at.false))
+    ]
 
 pub returns : goal.returns
 returns c =

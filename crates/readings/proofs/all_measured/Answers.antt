@@ -21,13 +21,13 @@ pub returns-then-not-measured_at : goal.returns-then-not-measured_at
 unfolding all_measured
 returns-then-not-measured_at c =
     let a = c.args in
-    sym (every_fails 8 c.loop-k.k (λ i. cond (member_at a.units i) (unit_at a.hour i).decreases true) (omega arith) (sym c.measured_at.ensures ∙ not-true _ c.if-not-measured_at.true-raw))
+    sym (every_fails 8 c.loop-k.k (λ i. cond (member_at a.units i) (unit_at a.hour i).measured true) (omega arith) (sym c.measured_at.ensures ∙ not-true _ c.if-not-measured_at.true-raw))
 
 pub loop-k-preserved : goal.loop-k-preserved
 loop-k-preserved c =
     let a = c.args in
     let l = c.loop-k in
-    (omega arith, every_next l.k (λ i. cond (member_at a.units i) (unit_at a.hour i).decreases true) l.invariant.1 (sym c.measured_at.ensures ∙ not-false _ c.if-not-measured_at.false-raw))
+    (omega arith, every_next l.k (λ i. cond (member_at a.units i) (unit_at a.hour i).measured true) l.invariant.1 (sym c.measured_at.ensures ∙ not-false _ c.if-not-measured_at.false-raw))
 
 pub returns : goal.returns
 unfolding all_measured
@@ -35,4 +35,4 @@ returns c =
     let a = c.args in
     let l = c.loop-k in
     let e : l.k ≡ 8 = omega arith in
-    sym l.invariant.1 ∙ ap (λ (n : ℕ). every n (λ i. cond (member_at a.units i) (unit_at a.hour i).decreases true)) e
+    sym l.invariant.1 ∙ ap (λ (n : ℕ). every n (λ i. cond (member_at a.units i) (unit_at a.hour i).measured true)) e

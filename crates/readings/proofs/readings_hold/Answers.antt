@@ -5,7 +5,7 @@ use mathlib.Core.Bool.{Bool, true, false, not}
 use lib.Dec.{ltb, eqb}
 use Rattle.energy.specs.declared.NetKwh.{NetKwh}
 use Rattle.readings.specs.Readings.{readings_total, readings_hold}
-use Rattle.readings.proofs.readings_hold.Goals.{After-exceeds, Else-exceeds}
+use Rattle.readings.proofs.readings_hold.Goals.{After-exceeds}
 use Rattle.readings.proofs.readings_hold.Goals as goal
 
 twice : (t : Bool) → t ≡ not (not t)
@@ -28,7 +28,7 @@ pub returns-then-all_measured : goal.returns-then-all_measured
 unfolding readings_hold
 returns-then-all_measured c =
     let a = c.args in
-    rw (sym (over (goal.at.returns-then-all_measured c).Else-exceeds) ∙ c.if-exceeds.false, sym c.all_measured.ensures ∙ c.if-all_measured.true)
+    rw (sym (over (goal.at.returns-then-all_measured c).After-exceeds) ∙ c.if-exceeds.false, sym c.all_measured.ensures ∙ c.if-all_measured.true)
     (c.equals.ensures
     ∙ ap (λ (n : NetKwh). eqb n.0 a.hour.net.0) c.readings_total-total.ensures
     ∙ twice (eqb (readings_total a.hour a.units).0 a.hour.net.0))

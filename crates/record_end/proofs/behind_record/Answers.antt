@@ -3,9 +3,7 @@
 use Rattle.record_end.proofs.Behind.{past_all, at_end, goes_on, none_left}
 use native.Mathlib.Omega.{arith}
 use Rattle.record_end.proofs.Behind.{past_all, at_end, goes_on}
-use mathlib.Core.Bool.{true}
 use mathlib.Core.Path.{refl, sym, ◌∙◌}
-use Prim.Native.Nat.{◌-◌}
 use Rattle.record_end.proofs.behind_record.Goals as goal
 
 pub loop-at-init : goal.loop-at-init

@@ -36,7 +36,7 @@ fit : (c : After-read_lines-c) → (c.args.start + c.read_lines-c.result.at < 2 
 fit c =
     let g = c.args in
     let place = place_in (drop g.start g.text.now) (ones g.units) in
-    (omega (arith, (shown c).at_is, place, length-drop g.start g.text.now, within (?Else-bad_start c)), omega (arith, c.read_lines-c.ensures.lines_bound))
+    (omega (arith, (shown c).at_is, place, length-drop g.start g.text.now, start_within g.text.now g.start (sym c.bad_start.ensures ∙ c.if-bad_start.false)), omega (arith, c.read_lines-c.ensures.lines_bound))
 
 room : (c : After-read_lines-c) → 2100 ≤ length c.read_lines-c.new.cells
 room c = omega (arith, c.read_lines-c.auto.cells)

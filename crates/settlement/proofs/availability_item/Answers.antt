@@ -30,4 +30,4 @@ paid-requires c =
 
 pub returns : goal.returns
 unfolding availability_item
-returns c = back _ c.paid.type-inv ∙ (c.paid.ensures ∙ ap paid (magnitude (goal.at.returns c).After-availability_pay))
+returns c = back _ c.paid.type_inv ∙ (c.paid.ensures ∙ ap paid (magnitude (goal.at.returns c).After-availability_pay))

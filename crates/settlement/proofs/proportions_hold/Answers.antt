@@ -1,25 +1,15 @@
 -- Each place passed has a proportion, by its unit's own use.
 -- Assumes nothing.
 use mathlib.Core.Path.{◌≡◌, refl, ap, sym, ◌∙◌}
-use mathlib.Core.Bool.{Bool, true, cond}
-use Prim.Native.Nat.{ℕ, ◌-◌}
+use Prim.Native.Nat.{ℕ}
 use native.Mathlib.Omega.{arith}
 use borrow.Author.Tests.{not-true, not-false}
-use lib.ListN.{get_or}
 use Rattle.finite.specs.Finite.{every}
 use Rattle.finite.proofs.Tests.{every_next, every_fails}
-use Rattle.units.specs.Units.{member_at}
-use Rattle.record.specs.declared.Record.{Record}
-use Rattle.record.specs.Spans.{unit_at}
-use Rattle.deviation.specs.Proportions.{unit_proportioned}
 use Rattle.settlement.specs.Ranges.{proportions_by}
 use Rattle.settlement.proofs.Taken.{given_unit}
-use mathlib.Core.List.{List}
+use Rattle.settlement.proofs.proportions_hold.Invariants.{at}
 use Rattle.settlement.proofs.proportions_hold.Goals as goal
-
--- the test of place i
-abbrev at : ℕ → List ℕ → Record → ℕ → Bool
-at units own r i = cond (member_at units i) (unit_proportioned (get_or own i 0) (unit_at r i)) true
 
 pub loop-k-init : goal.loop-k-init
 unfolding every

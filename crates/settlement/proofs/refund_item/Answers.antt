@@ -22,4 +22,4 @@ owed-requires c =
 
 pub returns : goal.returns
 unfolding refund_item
-returns c = back _ c.owed.type-inv ∙ (c.owed.ensures ∙ ap owed c.refund.ensures)
+returns c = back _ c.owed.type_inv ∙ (c.owed.ensures ∙ ap owed c.refund.ensures)

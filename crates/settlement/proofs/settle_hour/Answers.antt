@@ -7,7 +7,7 @@ use Rattle.allocation.specs.Allocation.{energies}
 use Rattle.formulas.proofs.Laws.{drawn_most}
 use Rattle.settlement.specs.Ranges.{place_amounts, plant_by, hour_by}
 use Rattle.settlement.proofs.Taken.{net_due, rates_due, drawn_due, plant_due, units_due}
-use Rattle.settlement.proofs.settle_hour.Goals.{After-allocate-energy, After-drawn_pay-arg-2-1}
+use Rattle.settlement.proofs.settle_hour.Goals.{After-allocate-energy}
 use Rattle.settlement.proofs.settle_hour.Goals as goal
 
 -- the energies are those of the definition's plant
@@ -33,7 +33,7 @@ hour_amounts-amounts-requires c =
     let a = c.args in
     let d = drawn_due a.day a.hour a.commitment c.requires in (
       rates_due a.day a.hour a.commitment c.requires,
-      rw (energies-here (goal.at.hour_amounts-amounts-requires c).After-drawn_pay-arg-2-1, c.plant_of-plant.ensures) (units_due a.day a.hour a.commitment c.requires),
+      rw (energies-here (goal.at.hour_amounts-amounts-requires c).After-allocate-energy, c.plant_of-plant.ensures) (units_due a.day a.hour a.commitment c.requires),
       omega (arith, c.drawn_pay-drawn.ensures, drawn_most a.hour.reverse a.hour.net a.day.ceiling a.day.rates.loss d.0 d.1),
     )
 
@@ -41,7 +41,7 @@ pub returns : goal.returns
 unfolding hour_by
 returns c =
     let a = c.args in
-    let energy = energies-here (goal.at.returns c).After-drawn_pay-arg-2-1 in
+    let energy = energies-here (goal.at.returns c).After-allocate-energy in
     let plant = c.plant_of-plant.ensures in
     let amounts =
     c.hour_amounts-amounts.ensures

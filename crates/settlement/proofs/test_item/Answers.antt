@@ -23,10 +23,10 @@ charge c =
 
 tested : (c : After-is_charged) →
     let a = c.args in
-    is_charged (counted_deviation a.d a.repair) a.decreases a.reading a.energy a.rates.loss ≡ c.is_charged.result
+    is_charged (counted_deviation a.d a.repair) a.measured a.reading a.energy a.rates.loss ≡ c.is_charged.result
 tested c =
     let a = c.args in
-    sym (c.is_charged.ensures ∙ ap (λ (q : NetKwh). is_charged q a.decreases a.reading a.energy a.rates.loss) c.counted_deviation-q.ensures)
+    sym (c.is_charged.ensures ∙ ap (λ (q : NetKwh). is_charged q a.measured a.reading a.energy a.rates.loss) c.counted_deviation-q.ensures)
 
 pub counted_deviation-q-requires : goal.counted_deviation-q-requires
 counted_deviation-q-requires c = λ i l. omega (arith, deviation_most c.args.d 1000000 c.requires.1 i l)
@@ -49,7 +49,7 @@ owed-requires c =
 
 pub returns-then-is_charged : goal.returns-then-is_charged
 unfolding test_item
-returns-then-is_charged c = rw (tested (goal.at.returns-then-is_charged c).After-is_charged ∙ c.if-is_charged.true) (back _ c.owed.type-inv ∙ (c.owed.ensures ∙ ap owed (charge (goal.at.returns-then-is_charged c).After-charge_of)))
+returns-then-is_charged c = rw (tested (goal.at.returns-then-is_charged c).After-is_charged ∙ c.if-is_charged.true) (back _ c.owed.type_inv ∙ (c.owed.ensures ∙ ap owed (charge (goal.at.returns-then-is_charged c).After-charge_of)))
 
 pub returns : goal.returns
 unfolding test_item

@@ -14,7 +14,7 @@ use Rattle.formulas.proofs.Laws.{ceiling_most}
 use Rattle.settlement.specs.Hour.{availability_item, refund_item, test_item, amounts_of}
 use Rattle.deviation.specs.Deviation.{SplitReady}
 use Rattle.deviation.proofs.Weights.{split_ready}
-use Rattle.settlement.proofs.unit_amounts.Goals.{After-availability_item-available, After-declaration_ceiling-arg-1, After-declaration_ceiling-ceiling, After-net_of-declared, After-split-d}
+use Rattle.settlement.proofs.unit_amounts.Goals.{After-net_of-declared, After-split-d}
 use Rattle.settlement.proofs.unit_amounts.Goals as goal
 
 -- D and the split are in range
@@ -43,13 +43,13 @@ pub energy_item-paid-requires : goal.energy_item-paid-requires
 energy_item-paid-requires c = let r = c.requires.1 in (r.offered, r.committed, r.allocated)
 
 pub availability_item-available-requires : goal.availability_item-available-requires
-availability_item-available-requires c = (c.requires.0, declared-most (goal.at.availability_item-available-requires c).After-declaration_ceiling-arg-1, c.requires.1.committed)
+availability_item-available-requires c = (c.requires.0, declared-most (goal.at.availability_item-available-requires c).After-net_of-declared, c.requires.1.committed)
 
 pub refund_item-refunded-requires : goal.refund_item-refunded-requires
-refund_item-refunded-requires c = (c.requires.0, declared-most (goal.at.refund_item-refunded-requires c).After-declaration_ceiling-ceiling)
+refund_item-refunded-requires c = (c.requires.0, declared-most (goal.at.refund_item-refunded-requires c).After-net_of-declared)
 
 pub test_item-tested-requires : goal.test_item-tested-requires
-test_item-tested-requires c = (c.requires.0, split-here (goal.at.test_item-tested-requires c).After-availability_item-available)
+test_item-tested-requires c = (c.requires.0, split-here (goal.at.test_item-tested-requires c).After-split-d)
 
 pub owed-owed-requires : goal.owed-owed-requires
 owed-owed-requires c = omega (arith, c.requires.2)
@@ -61,12 +61,12 @@ returns c =
     let n = c.net_of-declared.ensures in
     let allowed = c.net_of-allowed.ensures ∙ ap (λ (g : GrossKwh). net_of g a.own) c.declaration_ceiling-ceiling.ensures in
     let d = c.split-d.ensures in
-    let paid = back _ c.energy_item-paid.type-inv ∙ c.energy_item-paid.ensures in
-    let available = back _ c.availability_item-available.type-inv ∙ (c.availability_item-available.ensures ∙ ap (λ (n : NetKwh). availability_item a.rates n a.commitment) n) in
-    let refunded = back _ c.refund_item-refunded.type-inv ∙ (c.refund_item-refunded.ensures ∙ (λ i. refund_item a.rates (n i) a.u.real (d i) (allowed i))) in
+    let paid = back _ c.energy_item-paid.type_inv ∙ c.energy_item-paid.ensures in
+    let available = back _ c.availability_item-available.type_inv ∙ (c.availability_item-available.ensures ∙ ap (λ (n : NetKwh). availability_item a.rates n a.commitment) n) in
+    let refunded = back _ c.refund_item-refunded.type_inv ∙ (c.refund_item-refunded.ensures ∙ (λ i. refund_item a.rates (n i) a.u.real (d i) (allowed i))) in
     let tested =
-    back _ c.test_item-tested.type-inv
+    back _ c.test_item-tested.type_inv
     ∙ (c.test_item-tested.ensures
     ∙ ap (λ (d : Deviations). test_item a.rates a.u.measured a.u.reading a.u.repair a.u.since d a.energy) d) in
-    let owed = back _ c.owed-owed.type-inv ∙ c.owed-owed.ensures in
+    let owed = back _ c.owed-owed.type_inv ∙ c.owed-owed.ensures in
     λ i. record { item = paid i ∷ (available i ∷ (refunded i ∷ (tested i ∷ (owed i ∷ [])))) }

@@ -10,8 +10,8 @@ invariant-loop-s l =
     (l.s ≤ 10)
     × (length l.quantity ≡ 10)
     × (length l.price ≡ 10)
-    × (take l.s l.quantity ≡ tabulate l.s (λ l.s. record { 0 = get_or (line_in l.cells l.k).number (2 * l.s) 0 }))
-    × (take l.s l.price ≡ tabulate l.s (λ l.s. get_or (line_in l.cells l.k).number (2 * l.s + 1) 0))
+    × (take l.s l.quantity ≡ tabulate l.s (λ s. record { 0 = get_or (line_in l.cells l.k).number (2 * s) 0 }))
+    × (take l.s l.price ≡ tabulate l.s (λ s. get_or (line_in l.cells l.k).number (2 * s + 1) 0))
 
 abbrev pub decreases-loop-s : goal.decreases-loop-s
 decreases-loop-s l = 10 - l.s

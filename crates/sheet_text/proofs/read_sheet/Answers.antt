@@ -34,7 +34,7 @@ shown c = subst (λ (t : List ℕ). Shows c.read_lines-c.new.cells c.read_lines-
 fits : (c : After-read_lines-c) → (c.args.start + c.read_lines-c.result.at < 2 ^ 63) × (c.read_lines-c.result.lines < 2 ^ 63)
 fits c =
     let g = c.args in
-    let w = start_within g.text.now g.start (begun (?Else-bad_start c)) in
+    let w = start_within g.text.now g.start (sym c.bad_start.ensures ∙ c.if-bad_start.false) in
     (omega (arith, (shown c).at_is, place_in (drop g.start g.text.now), length-drop g.start g.text.now), omega (arith, c.read_lines-c.ensures.lines_bound))
 
 pub returns-then-bad_start : goal.returns-then-bad_start
@@ -43,10 +43,10 @@ returns-then-bad_start c =
     ∙ sym (start_bad c.args.text.now c.args.start (sym c.bad_start.ensures ∙ c.if-bad_start.true))
 
 pub slice_bounds-read_lines-count : goal.slice_bounds-read_lines-count
-slice_bounds-read_lines-count c = omega (arith, start_within c.args.text.now c.args.start (begun (c)))
+slice_bounds-read_lines-count c = omega (arith, start_within c.args.text.now c.args.start (sym c.bad_start.ensures ∙ c.if-bad_start.false))
 
 pub slice_bounds-read_lines-start : goal.slice_bounds-read_lines-start
-slice_bounds-read_lines-start c = omega (arith, start_within c.args.text.now c.args.start (begun (c)))
+slice_bounds-read_lines-start c = omega (arith, start_within c.args.text.now c.args.start (sym c.bad_start.ensures ∙ c.if-bad_start.false))
 
 pub read_lines-c-requires : goal.read_lines-c-requires
 read_lines-c-requires c = record { in_bounds = omega arith; blank = zeros_blank 7000 }

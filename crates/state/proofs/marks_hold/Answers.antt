@@ -1,8 +1,8 @@
 -- The test holds of every hour passed.
 -- Assumes nothing.
-use Prim.Native.Nat.{ℕ, ◌-◌}
+use Prim.Native.Nat.{ℕ}
 use mathlib.Core.Path.{◌≡◌, refl, ap, sym, ◌∙◌}
-use mathlib.Core.Bool.{true, ◌||◌}
+use mathlib.Core.Bool.{◌||◌}
 use native.Mathlib.Omega.{arith}
 use Rattle.finite.specs.Finite.{every}
 use Rattle.finite.proofs.Tests.{every_next, every_fails}

@@ -1,9 +1,8 @@
 -- The test holds of every hour passed: a commitment of 0 exceeds no limit.
 -- Assumes nothing.
-use Prim.Native.Nat.{ℕ, ◌-◌}
+use Prim.Native.Nat.{ℕ}
 use mathlib.Core.Path.{◌≡◌, refl, ap, sym, ◌∙◌}
-use mathlib.Core.Bool.{Bool, true}
-use mathlib.Core.Logic.{⊎_elim}
+use mathlib.Core.Bool.{Bool}
 use native.Mathlib.Omega.{arith}
 use borrow.Author.Tests.{lt-leb, le-leb, ltb-true, ltb-false}
 use Rattle.finite.specs.Finite.{every}
@@ -13,6 +12,7 @@ use lib.ListN.{get_or}
 use Rattle.sheet.specs.Ranges.{offer_at}
 use Rattle.state.specs.Sizes.{hours, entry_of}
 use Rattle.state.specs.Ranges.{limit_of}
+use Rattle.state.proofs.place_holds.Goals.{then-held-gt0+else-exceeds, else-held-gt0}
 use Rattle.state.proofs.place_holds.Goals as goal
 
 pub loop-h-init : goal.loop-h-init
@@ -30,10 +30,16 @@ loop-h-preserved c =
     let l = c.loop-h in
     let a = c.args in
     let f : ℕ → Bool = (λ h. leb (get_or a.kwh.now (entry_of h a.k) 0) (limit_of a.member (offer_at a.u h)).0) in
-    ⊎_elim
-    (λ w. (omega arith, every_next l.h f l.invariant.1 (rw (← w.2.ensures) (le-leb _ _ (ltb-false w.2.result.0 (get_or a.kwh.now (entry_of l.h a.k) 0) (sym w.3.ensures ∙ w.4.left))))))
-    (λ w. (omega arith, every_next l.h f l.invariant.1 (le-leb (get_or a.kwh.now (entry_of l.h a.k) 0) (limit_of a.member (offer_at a.u l.h)).0 (omega (arith, w.left)))))
-    c.if-held-gt0.branch
+    elim c.if-held-gt0.branch [
+      | then-held-gt0+else-exceeds w ↦ (
+        omega arith,
+        every_next l.h f l.invariant.1 (rw (← w.limit_of-limit.ensures) (le-leb _ _ (ltb-false w.limit_of-limit.result.0 (get_or a.kwh.now (entry_of l.h a.k) 0) (sym w.exceeds.ensures ∙ w.if-exceeds.false)))),
+      )
+      | else-held-gt0 w ↦ (
+        omega arith,
+        every_next l.h f l.invariant.1 (le-leb (get_or a.kwh.now (entry_of l.h a.k) 0) (limit_of a.member (offer_at a.u l.h)).0 (omega (arith, w.if-held-gt0.false))),
+      )
+    ]
 
 pub returns : goal.returns
 returns c =

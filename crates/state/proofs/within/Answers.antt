@@ -22,5 +22,5 @@ pub returns : goal.returns
 returns c =
     let n = c.args.most in
     let z = c.args.amount in
-    rw (to_z-of_z (sub-result c), to_z-of_z c.ranges.amount, to_z_pos w64 c.requires, +ℤ_idl (neg_ℤ (pos n)))
+    rw (to_z-of_z (overflow_sub-result c), to_z-of_z c.ranges.amount, to_z_pos w64 c.requires, +ℤ_idl (neg_ℤ (pos n)))
     (not_above z n (rw (to_z_pos w64 c.requires, to_z-of_z c.ranges.amount) at c.if-amount-high.false))
