@@ -52,12 +52,12 @@ loop-terms-preserved c =
     onward _ _ _ _ _ _ _ _ _ _ _ _ p _ _ _ _ _ _ _ u _ _ _ _ (call-is (goal.at.loop-terms-preserved c).After-carry_out-done) c.carry_out-done.ensures (room (goal.at.loop-terms-preserved c).In-loop-terms).1 _ _ _ _ _
     c.number_of.ensures c.line_of.ensures c.posted_of-posted.ensures c.entries_of-filled.ensures c.reply.ensures
     (record {
-      commitment = kept.0 ∙ u.long.commitment;
-      mark = kept.1.0 ∙ u.long.mark;
-      energy = kept.1.1.0 ∙ u.long.energy;
-      amounts = kept.1.1.1.0 ∙ u.long.amounts;
+      commitment = kept.commitment ∙ u.long.commitment;
+      mark = kept.mark ∙ u.long.mark;
+      energy = kept.energy ∙ u.long.energy;
+      amounts = kept.amounts ∙ u.long.amounts;
     })
-    kept.1.1.1.1.0 (room (goal.at.loop-terms-preserved c).In-loop-terms).0
+    kept.rows (room (goal.at.loop-terms-preserved c).In-loop-terms).0
 
 pub shape_of-mark : goal.shape_of-mark
 shape_of-mark c = c.loop-terms.invariant.long.mark ∙ sym c.requires.long.mark

@@ -11,7 +11,7 @@ use Rattle.series.proofs.go_on_in_range.Goals as goal
 
 -- a stand has as many numbers as its type says
 long : (c : Start) → Long (table_of c.args.stand)
-long c = record { commitment = simp length-map at c.well_formed.1.1.1.1.1.1.0.1.1.1.1.1.0.1.0.1; mark = simp length-map at c.well_formed.1.1.1.1.1.1.0.1.1.1.1.1.1.0.1.0.1; energy = simp length-map at c.well_formed.1.1.1.1.1.1.0.1.1.1.1.1.1.1.0.1.0.1; amounts = simp length-map at c.well_formed.1.1.1.1.1.1.0.1.1.1.1.1.1.1.1.0.1.0.1 }
+long c = record { commitment = c.well_formed.1.1.1.1.1.1.0.1.1.1.1.1.0.1.0.1; mark = c.well_formed.1.1.1.1.1.1.0.1.1.1.1.1.1.0.1.0.1; energy = c.well_formed.1.1.1.1.1.1.0.1.1.1.1.1.1.1.0.1.0.1; amounts = c.well_formed.1.1.1.1.1.1.0.1.1.1.1.1.1.1.1.0.1.0.1 }
 
 pub slice_bounds-run_batch-end : goal.slice_bounds-run_batch-end
 slice_bounds-run_batch-end c = sym (long (goal.at.slice_bounds-run_batch-end c).Start).commitment
@@ -32,7 +32,7 @@ run_batch-b-requires c =
 pub rows_of-requires : goal.rows_of-requires
 rows_of-requires c =
     let batch = c.run_batch-b in
-    (units_most _ _ _ _ _ _ c.args.stand c.requires.0 c.requires.1 _ _ c.terms_of-terms.ensures c.offer_numbers-offers.ensures, batch.ensures.ahead.few, batch.auto.1.1.1.1.0, batch.auto.1.1.1.1.1.0)
+    (units_most _ _ _ _ _ _ c.args.stand c.requires.0 c.requires.1 _ _ c.terms_of-terms.ensures c.offer_numbers-offers.ensures, batch.ensures.ahead.few, batch.auto.hours, batch.auto.rows)
 
 pub overflow_sub-result : goal.overflow_sub-result
 overflow_sub-result c =
