@@ -30,7 +30,7 @@ module _ (h u : ℕ) (l : Ledger) where
   refused_took : (c : Call) (a : Reply) → 1 ≤ a.number → took_for h u c a ≡ 0
   refused_took (take hour unit kwh) a n = not_counted a (eqb h hour) (eqb u unit) kwh n
   refused_took (release hour unit kwh) a n = refl
-  refused_took (move hour from to kwh) a n = not_counted a (eqb h hour) (eqb u to) kwh n
+  refused_took (move hour from to kwh) a n = grind (arith, not_counted a (eqb h hour) (eqb u to) kwh n)
   refused_took (settle text start) a n = refl
   refused_took (restate text start) a n = refl
   refused_took (void hour) a n = refl
@@ -38,7 +38,7 @@ module _ (h u : ℕ) (l : Ledger) where
   refused_gave : (c : Call) (a : Reply) → 1 ≤ a.number → gave_for h u c a ≡ 0
   refused_gave (take hour unit kwh) a n = refl
   refused_gave (release hour unit kwh) a n = not_counted a (eqb h hour) (eqb u unit) kwh n
-  refused_gave (move hour from to kwh) a n = not_counted a (eqb h hour) (eqb u from) kwh n
+  refused_gave (move hour from to kwh) a n = grind (arith, not_counted a (eqb h hour) (eqb u from) kwh n)
   refused_gave (settle text start) a n = refl
   refused_gave (restate text start) a n = refl
   refused_gave (void hour) a n = refl

@@ -162,8 +162,7 @@ module _ (sheet : Sheet) (journal : List Posting) (calls : List Call) where
       (sum_z 24 (λ h. amount_for sheet (standing sheet calls replies (h + 1)) (reckoned calls replies (h + 1)) (unit - 1) (item - 1)))
   unfolding total_on total_decided
   total unit item =
-      ap (λ (f : Bool). total_by (sheet_holds sheet) f (item_of sheet unit item) (total_of unit item (take st.count st.journal))) fits
-      ∙ by_item (sheet_holds sheet) true (item_of sheet unit item) _ _ (of_item_lem unit item)
+      rw fits (by_item (sheet_holds sheet) true (item_of sheet unit item) _ _ (of_item_lem unit item))
 
   pub promise : Demand sheet journal calls (ran_from sheet (begun journal) calls).replies (ran_from sheet (begun journal) calls).state
   promise =
