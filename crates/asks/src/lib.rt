@@ -1,5 +1,6 @@
 // The lines of a list of calls, as `replay` reads them behind the sheet: what a line asks, and where the next one stands.
 #![tactic(auto)]
+
 ghost use Rattle.std.specs.Prelude.{◌≡◌, ◌+◌, ◌<◌, ◌≤◌, length};
 ghost use Rattle.asks.specs.Asks.{kind_of, numbers_of, row_of, no_asked, not_asked, kwh_of, asked_of, total_of, next_of, asking_of, asking_at};
 ghost use Rattle.asks.specs.Extent.{extent_of, line_end, line_ends};

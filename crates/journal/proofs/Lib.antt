@@ -1,10 +1,5 @@
-pub mod Again
-pub mod Appended
-pub mod OwnList
 pub mod Posted
-pub mod Typed
 pub mod Listed
-pub mod Params
-pub mod Thin
 pub mod Stood
 pub mod Folded
+pub mod Parts

@@ -24,7 +24,7 @@ use Rattle.settlement.specs.declared.HourResult.{HourResult}
 use Rattle.deviation.specs.Deviation.{deviations_of}
 use Rattle.settlement.specs.Hour.{past_amounts, energy_item, availability_item, refund_item, test_item, drawn_at, plant_of, hour_result, hour_is}
 use Rattle.terms.specs.Terms.{rates_of}
-use Rattle.settlement.proofs.Ready.{field_own, hour_offer}
+use Rattle.settlement.proofs.Ready.{own_at, hour_offer}
 use Rattle.settlement.proofs.Laws.{amount_is}
 use Rattle.marked.specs.Figures.{net, hub, grains, three, Free, day_sheet, takes, first_case}
 
@@ -62,7 +62,7 @@ module _ (free : Free) where
   abbrev pub items_by : ℕ → ℕ → List HubGrains → ℕ → List ℤ
   items_by k cost energy drawn =
       let rates = rates_of (day_sheet free) 1 in
-      let own = field_own (day_sheet free) k in
+      let own = own_at (day_sheet free) k in
       let u = record_unit first_case k in
       let declared = net_of u.declared own in
       let allowed = net_of (declaration_ceiling rates.season u.power) own in

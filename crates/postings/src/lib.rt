@@ -1,5 +1,6 @@
 // Postings: the count and the scan of those up to it, and the postings of a batch of calls.
 #![tactic(auto)]
+
 ghost use Rattle.std.specs.Prelude.{◌≡◌, ◌*◌, ◌≤◌, min, length};
 ghost use Rattle.postings.specs.Journal.{no_posting, count_holds, covered_by, is_of, scanned_with, scanned_none};
 ghost use Rattle.postings.specs.Plan.{plan_rows};

@@ -31,9 +31,12 @@ returns-then-a-ne0 c =
     let a = c.ask-a.ensures.value in
     let r : (asking_at t l.at).refusal ≡ 0 → ⊥ = λ z. c.if-a-ne0.true (ap (λ (x : Asking). x.refusal) a ∙ z) in
     let e : c.ask-a.result.refusal ≡ (asking_at t l.at).refusal = ap (λ (x : Asking). x.refusal) a in
-    let n : c.line_ends.result + 1 ≡ line_number t l.at = ap (λ (k : ℕ). k + 1) c.line_ends.ensures.value in record { value = (ap {B = Extent} (λ (k : ℕ). record { calls = l.calls; refusal = k; line = c.line_ends.result + 1 }) e
+    let n : c.line_ends.result + 1 ≡ line_number t l.at = ap (λ (k : ℕ). k + 1) c.line_ends.ensures.value in record {
+      value = (ap {B = Extent} (λ (k : ℕ). record { calls = l.calls; refusal = k; line = c.line_ends.result + 1 }) e
           ∙ ap {B = Extent} (λ (k : ℕ). record { calls = l.calls; refusal = (asking_at t l.at).refusal; line = k }) n)
-          ∙ (sym (counted_stop t l.at l.calls l.invariant.0 (omega arith) r) ∙ l.invariant.2); calls_in_bounds = l.invariant.1 }
+          ∙ (sym (counted_stop t l.at l.calls l.invariant.0 (omega arith) r) ∙ l.invariant.2);
+      calls_in_bounds = l.invariant.1;
+    }
 
 pub loop-at-smaller : goal.loop-at-smaller
 loop-at-smaller c =

@@ -3,7 +3,6 @@
 use Rattle.asks.proofs.Parts.{line_ends_on, line_ends_none}
 use native.Mathlib.Omega.{arith}
 use Rattle.asks.proofs.Parts.{line_ends_on}
-use Prim.Native.Nat.{◌-◌}
 use Rattle.asks.proofs.line_ends.Goals as goal
 
 pub loop-i-init : goal.loop-i-init

@@ -1,23 +1,15 @@
 -- A refused text has the reader's line. The other arm is for all variants but the first, and each of those has line 0.
 -- Assumes nothing.
 use mathlib.Core.Path.{◌≡◌, refl, ap, sym, ◌∙◌}
-use mathlib.Core.List.{List, [], ◌∷◌}
-use Prim.Native.Nat.{ℕ}
-use types.Run.{OneOf, miss}
-use denote.Enum.Declared.{tag_of}
+use Rattle.lines.specs.declared.TextRefusal.{TextRefusal}
 use Rattle.ledger.specs.declared.Refusal.{Refusal}
 use Rattle.ledger.specs.declared.Refusal.TheVariants.{Text, SheetRange, HourRange, UnitUnknown, BookRange, HourSettled, NoAmount, OverOffer, HeldLess, SameUnit, Minutes, Readings, Proportions, HourStands, HourOpen, NoPlaces}
 use Rattle.ledger.specs.Numbers.{refusal_line}
-use Rattle.ledger.specs.contracts.Refusal.{the_type}
 use Rattle.decisions.proofs.refusal_line.Goals as goal
 
--- the other variants' numbers
-abbrev others : List ℕ
-others = 1 ∷ 2 ∷ 3 ∷ 4 ∷ 5 ∷ 6 ∷ 7 ∷ 8 ∷ 9 ∷ 10 ∷ 11 ∷ 12 ∷ 13 ∷ 14 ∷ 15 ∷ []
-
 -- by cases: every refusal but a text has line 0
-no_line_lem : (r : Refusal) → OneOf others (tag_of the_type r) → 0 ≡ refusal_line r
-no_line_lem (Text t) k = absurd (miss others 0 tt k)
+no_line_lem : (r : Refusal) → ((t : TextRefusal) → r ≡ Text t → ⊥) → 0 ≡ refusal_line r
+no_line_lem (Text t) k = absurd (k t refl)
 no_line_lem SheetRange k = refl
 no_line_lem HourRange k = refl
 no_line_lem UnitUnknown k = refl
@@ -38,4 +30,4 @@ pub returns-in-Text : goal.returns-in-Text
 returns-in-Text c = c.text_line.ensures ∙ sym (ap refusal_line c.in-Text.is)
 
 pub returns : goal.returns
-returns c = no_line_lem c.args.refusal c.in_default.keys2
+returns c = no_line_lem c.args.refusal c.in_default.not-Text

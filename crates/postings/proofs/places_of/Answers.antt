@@ -3,14 +3,14 @@
 use mathlib.Core.Path.{◌≡◌, sym, ap, ◌∙◌, subst}
 use mathlib.Core.Bool.{true, false}
 use mathlib.Core.List.{List}
-use mathlib.Core.Logic.{⊎_elim}
-use Prim.Native.Nat.{ℕ, ◌+◌, ◌-◌, ◌<◌}
+use Prim.Native.Nat.{ℕ, ◌+◌, ◌<◌}
 use native.Mathlib.Omega.{arith}
 use lib.ListN.{set}
 use Rattle.units.specs.Units.{member_at}
 use Rattle.units.proofs.Laws.{members_zero, members_in, members_out, members_le}
 use Rattle.state.specs.Sizes.{places}
 use Rattle.postings.proofs.Places.{Placed, placed_none, placed_in, placed_out, placed_all}
+use Rattle.postings.proofs.places_of.Goals.{then-member_at, else-member_at}
 use Rattle.postings.proofs.places_of.Goals as goal
 
 pub loop-p-init : goal.loop-p-init
@@ -33,19 +33,19 @@ loop-p-preserved c =
     let l = c.loop-p in
     let units = c.args.units in
     let below : l.p < places = omega arith in
-    ⊎_elim
-    (λ w. let m : member_at units l.p ≡ true = sym c.member_at.ensures ∙ w.0.taken in (
-      omega arith,
-      omega (arith, w.2, l.invariant.1, members_in units l.p m),
-      subst (λ (x : List ℕ). Placed units (l.p + 1) x)
-          (ap (λ (n : ℕ). set l.place n l.p) (sym l.invariant.1) ∙ sym w.1) (placed_in units l.p l.place below l.invariant.2 m),
-    ))
-    (λ w. let m : member_at units l.p ≡ false = sym c.member_at.ensures ∙ w.0.left in (
-      omega arith,
-      omega (arith, w.2, l.invariant.1, members_out units l.p below m),
-      subst (λ (x : List ℕ). Placed units (l.p + 1) x) (sym w.1) (placed_out units l.p l.place below l.invariant.2 m),
-    ))
-    c.if-member_at.branch
+    elim c.if-member_at.branch [
+      | then-member_at w ↦ let m : member_at units l.p ≡ true = sym c.member_at.ensures ∙ w.if-member_at.true in (
+        omega arith,
+        omega (arith, w.m-is, l.invariant.1, members_in units l.p m),
+        subst (λ (x : List ℕ). Placed units (l.p + 1) x)
+            (ap (λ (n : ℕ). set l.place n l.p) (sym l.invariant.1) ∙ sym w.place-is) (placed_in units l.p l.place below l.invariant.2 m),
+      )
+      | else-member_at w ↦ let m : member_at units l.p ≡ false = sym c.member_at.ensures ∙ w.if-member_at.false in (
+        omega arith,
+        omega (arith, w.m-is, l.invariant.1, members_out units l.p below m),
+        subst (λ (x : List ℕ). Placed units (l.p + 1) x) (sym w.place-is) (placed_out units l.p l.place below l.invariant.2 m),
+      )
+    ]
 
 pub returns : goal.returns
 returns c =

@@ -2,7 +2,7 @@
 -- a place and an item, so that each read and the store are within their arrays.
 -- Assumes nothing.
 use mathlib.Core.Path.{◌≡◌, refl, ap}
-use Prim.Native.Nat.{ℕ, ◌*◌, ◌-◌, ◌≤◌}
+use Prim.Native.Nat.{ℕ, ◌*◌, ◌≤◌}
 use native.Mathlib.Omega.{arith}
 use lib.ListN.{length-set}
 use Rattle.finite.specs.Finite.{tabulate}
@@ -11,13 +11,21 @@ use Rattle.formulas.proofs.Amounts.{back}
 use Rattle.state.specs.Sizes.{items}
 use Rattle.postings.specs.Plan.{plan_rows}
 use Rattle.postings.proofs.Entries.{row_made, Turn, turn, size_most, rows_most, rows_entry}
-use Rattle.postings.proofs.rows_of.Goals.{In-loop-k}
+use Rattle.postings.proofs.rows_of.Goals.{In-loop-k, In-loop-k-unread}
 use Rattle.postings.proofs.rows_of.Goals as goal
 
 -- row k is one of the first entries' rows
 reached : (c : In-loop-k) →
     Turn c.places_of-place.result (items * c.unit_count.result) c.loop-k.k
 reached c =
+    turn c.args.units _ _ c.args.filled c.loop-k.k (omega (arith, c.requires.0))
+    c.places_of-place.ensures (ap (λ (n : ℕ). items * n) c.unit_count.ensures)
+    c.requires.1 c.loop-k-test.true
+
+-- the same before the place is read
+reached_unread : (c : In-loop-k-unread) →
+    Turn c.places_of-place.result (items * c.unit_count.result) c.loop-k.k
+reached_unread c =
     turn c.args.units _ _ c.args.filled c.loop-k.k (omega (arith, c.requires.0))
     c.places_of-place.ensures (ap (λ (n : ℕ). items * n) c.unit_count.ensures)
     c.requires.1 c.loop-k-test.true
@@ -35,16 +43,16 @@ unfolding tabulate
 loop-k-init c = (omega arith, refl, refl)
 
 pub nonzero_div-e : goal.nonzero_div-e
-nonzero_div-e c = let t = reached c in omega arith
+nonzero_div-e c = let t = reached_unread c in omega arith
 
 pub nonzero_rem-w : goal.nonzero_rem-w
-nonzero_rem-w c = let t = reached c in omega arith
+nonzero_rem-w c = let t = reached_unread c in omega arith
 
 pub offset_bounds-place-w : goal.offset_bounds-place-w
-offset_bounds-place-w c = let t = reached c in omega arith
+offset_bounds-place-w c = let t = reached_unread c in omega arith
 
 pub bounds-place-w : goal.bounds-place-w
-bounds-place-w c = let t = reached c in omega arith
+bounds-place-w c = let t = reached_unread c in omega arith
 
 pub offset_bounds-hours-e : goal.offset_bounds-hours-e
 offset_bounds-hours-e c = let t = reached c in omega arith

@@ -31,4 +31,4 @@ overflow_add-result c =
     rw (back c.args.s.sum c.struct_told-2-1.given.1.0.1, back c.args.x.amount c.struct_told-1.given.1.1.1.0.1) (fits (t +ℤ x) (omega (arith, nat_abs_add t x)))
 
 pub returns : goal.returns
-returns c = rw (to_z-of_z (add-t9 c), back c.args.s.sum c.struct_told-2-1.given.1.0.1, back c.args.x.amount c.struct_told-1.given.1.1.1.0.1) (sym (step_more c.args.s c.args.x c.args.unit c.args.item (not-false _ c.if-not-s.false) (rw (back c.args.x.amount c.struct_told-1.given.1.1.1.0.1) at (sym c.within.ensures) ∙ not-false _ c.if-not-within.false-raw) (sym c.is_of.ensures ∙ not-false _ c.if-not-is_of.false-raw) (rw (back c.args.s.sum c.struct_told-2-1.given.1.0.1) at (sym c.within-2.ensures) ∙ not-false _ c.if-not-within-2.false-raw)))
+returns c = rw (to_z-of_z (overflow_add-result c), back c.args.s.sum c.struct_told-2-1.given.1.0.1, back c.args.x.amount c.struct_told-1.given.1.1.1.0.1) (sym (step_more c.args.s c.args.x c.args.unit c.args.item (not-false _ c.if-not-s.false) (rw (back c.args.x.amount c.struct_told-1.given.1.1.1.0.1) at (sym c.within.ensures) ∙ not-false _ c.if-not-within.false-raw) (sym c.is_of.ensures ∙ not-false _ c.if-not-is_of.false-raw) (rw (back c.args.s.sum c.struct_told-2-1.given.1.0.1) at (sym c.within-2.ensures) ∙ not-false _ c.if-not-within-2.false-raw)))
