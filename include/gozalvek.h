@@ -1,7 +1,7 @@
 /* The day's account of one power plant, for C and C++.
  *
- * `rt staticlib exports` proves the two functions below and writes
- * target/staticlib/libexports.a, to link on x86-64.
+ * `rt lib` in crates/exports proves the two functions below and writes
+ * crates/exports/out/libexports.a, to link on x86-64.
  *
  * Both keep nothing between calls and may run on several threads at once. Each
  * slice is a pointer and the number of its elements. A pointer is never null,

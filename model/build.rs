@@ -1,5 +1,5 @@
-//! With the feature `product`, links the archive that `rt staticlib exports`
-//! writes.
+//! With the feature `product`, links the archive that `rt lib` writes in
+//! `crates/exports`.
 
 use std::path::Path;
 
@@ -9,11 +9,11 @@ fn main() {
         return;
     }
     let package = std::env::var("CARGO_MANIFEST_DIR").expect("cargo names the package's folder");
-    let folder = Path::new(&package).join("../target/staticlib");
+    let folder = Path::new(&package).join("../crates/exports/out");
     let archive = folder.join("libexports.a");
     assert!(
         archive.exists(),
-        "{} is not there: run `rt staticlib exports` in the repository first",
+        "{} is not there: run `rt lib` in crates/exports first",
         archive.display()
     );
     println!("cargo:rerun-if-changed={}", archive.display());

@@ -11,7 +11,7 @@ fn file_of<R: Files + Eprint + Alloc, W: Write>(rt: &R, out: &mut W, name: &str)
         Err(error) => return eprintln!(rt; "{name}: {error}"),
     };
     let mut text = vec![in rt.alloc(); 0u8; 70000]?;
-    let size = file_bytes::read_full(&mut file, &mut text);
+    let (size, _error) = file_bytes::read_full(&mut file, &mut text);
     text.truncate(size);
     writeln!(out, "{name}")?;
     let mut bytes = vec![in rt.alloc(); 0u8; 400000]?;

@@ -149,7 +149,7 @@ listing_all text from calls n s l m =
     record {
       number_is = sym l.count ∙ ap (λ (d : DayCalls). length d.calls) (sym whole);
       ending_is = ap (λ (d : DayCalls). d.ending) (sym whole);
-      call_at_lem = λ i b. l.stored i b ∙ ap (λ (d : DayCalls). get_or d.calls i none_asked) (sym whole);
+      call_at = λ i b. l.stored i b ∙ ap (λ (d : DayCalls). get_or d.calls i none_asked) (sym whole);
     }
   where
     none : calls_by (day_calls text) s ≡ no_calls s.ending

@@ -111,4 +111,4 @@ stored_at calls i a = paste calls (call_numbers * i) (tabulate call_numbers (num
 pub record Lists (text : List ℕ) (from : ℕ) (calls : List ℕ) (r : Listed) : Type 0 where
   pub number_is : r.calls ≡ length (day_calls text from).calls
   pub ending_is : r.ending ≡ (day_calls text from).ending
-  pub call_at_lem : (i : ℕ) → i < r.calls → asked_at calls i ≡ get_or (day_calls text from).calls i none_asked
+  pub call_at : (i : ℕ) → i < r.calls → asked_at calls i ≡ get_or (day_calls text from).calls i none_asked

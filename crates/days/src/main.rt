@@ -130,7 +130,7 @@ fn file_of<R: Files + Eprint + Alloc, W: Write>(
         Err(error) => return eprintln!(rt; "{name}: {error}"),
     };
     let mut text = vec![in rt.alloc(); 0u8; 65537]?;
-    let size = file_bytes::read_full(&mut file, &mut text);
+    let (size, _error) = file_bytes::read_full(&mut file, &mut text);
     text.truncate(size);
     if readings {
         sheet_of(out, name.as_bytes(), &text)

@@ -12,22 +12,23 @@ ghost use Rattle.charge.specs.Test.{Bounded, weighted};
 use allocation::Plant;
 use energy::{GrossKwh, HubGrains, HubKwh, NetKwh};
 use formulas::Deviations;
-use libc::STDOUT_FILENO;
 use offer::Offer;
 use record::{Span, UnitRecord};
+use std::io;
+use std::io::{BufWriter, Write};
 
-fn say(words: &[u8]) {
-    io::write_all(STDOUT_FILENO, words);
+fn say<W: Write>(out: &mut W, words: &[u8]) -> io::Result<()> {
+    out.write_all(words)
 }
 
-fn say_number(n: u64) {
-    io::print_decimal(STDOUT_FILENO, n);
+fn say_number<W: Write>(out: &mut W, n: u64) -> io::Result<()> {
+    write!(out, "{n}")
 }
 
 // A further number of a line.
-fn say_next(n: u64) {
-    say(b" ");
-    say_number(n);
+fn say_next<W: Write>(out: &mut W, n: u64) -> io::Result<()> {
+    say(out, b" ")?;
+    say_number(out, n)
 }
 
 // An offer of two steps.
@@ -74,26 +75,33 @@ fn plant_12() -> Plant
 }
 
 // The shares of the three units, in grains.
-fn example_12() {
+fn example_12<W: Write>(out: &mut W) -> io::Result<()> {
     let energy = allocation::allocate(NetKwh(320000), NetKwh(0), plant_12());
-    say(b"12");
-    say_next(energy[0].0);
-    say_next(energy[1].0);
-    say_next(energy[2].0);
-    say(b"\n");
+    say(out, b"12")?;
+    say_next(out, energy[0].0)?;
+    say_next(out, energy[1].0)?;
+    say_next(out, energy[2].0)?;
+    say(out, b"\n")
 }
 
 // A of 120,000 on a day.
-fn example_13(month: u64, day: u64) {
+fn example_13<W: Write>(out: &mut W, month: u64, day: u64) -> io::Result<()> {
     let season = formulas::in_season(month, day);
     let allowed = formulas::declaration_ceiling(season, GrossKwh(120000));
-    say(b"13 ");
-    say_number(allowed.0);
-    say(b"\n");
+    say(out, b"13 ")?;
+    say_number(out, allowed.0)?;
+    say(out, b"\n")
 }
 
 // The split of the deviation of a unit with an own use of 1 per cent, by its test criterion and its spans: d2 to d8.
-fn split_example(name: &[u8], test: NetKwh, deviation: NetKwh, spans: usize, span: [Span; 6])
+fn split_example<W: Write>(
+    out: &mut W,
+    name: &[u8],
+    test: NetKwh,
+    deviation: NetKwh,
+    spans: usize,
+    span: [Span; 6],
+) -> io::Result<()>
     requires test_bound { (test.0 ≤ 1000000) × (deviation.0 ≤ 1000000) × (1 ≤ spans) × (spans ≤ 6) }
     requires by_index { (i : ℕ) → i < spans → SpanInRange (get_or span i no_span) }
 {
@@ -111,15 +119,15 @@ fn split_example(name: &[u8], test: NetKwh, deviation: NetKwh, spans: usize, spa
         span: span,
     };
     let d = deviation::split(100, u);
-    say(name);
-    say_next(d.kwh[0].0);
-    say_next(d.kwh[1].0);
-    say_next(d.kwh[2].0);
-    say_next(d.kwh[3].0);
-    say_next(d.kwh[4].0);
-    say_next(d.kwh[5].0);
-    say_next(d.kwh[6].0);
-    say(b"\n");
+    say(out, name)?;
+    say_next(out, d.kwh[0].0)?;
+    say_next(out, d.kwh[1].0)?;
+    say_next(out, d.kwh[2].0)?;
+    say_next(out, d.kwh[3].0)?;
+    say_next(out, d.kwh[4].0)?;
+    say_next(out, d.kwh[5].0)?;
+    say_next(out, d.kwh[6].0)?;
+    say(out, b"\n")
 }
 
 fn span_of(minutes: u64, kind: u64, cause: u64, capability: GrossKwh) -> Span
@@ -156,39 +164,39 @@ fn three_spans(first: Span, second: Span, third: Span) -> [Span; 6]
 }
 
 // Kinds 2 and 3.
-fn example_16() {
+fn example_16<W: Write>(out: &mut W) -> io::Result<()> {
     let first = span_of(20, 1, 0, GrossKwh(135000));
     let second = span_of(30, 2, 0, GrossKwh(110000));
     let third = span_of(10, 3, 0, GrossKwh(105000));
     let spans = three_spans(first, second, third);
-    split_example(b"16", NetKwh(135000), NetKwh(17500), 3, spans);
+    split_example(out, b"16", NetKwh(135000), NetKwh(17500), 3, spans)
 }
 
 // Kind 2, once of environmental cause.
-fn example_18() {
+fn example_18<W: Write>(out: &mut W) -> io::Result<()> {
     let first = span_of(40, 2, 0, GrossKwh(40000));
     let second = span_of(20, 2, 1, GrossKwh(20000));
     let spans = two_spans(first, second);
-    split_example(b"18", NetKwh(80000), NetKwh(46000), 2, spans);
+    split_example(out, b"18", NetKwh(80000), NetKwh(46000), 2, spans)
 }
 
 // Kinds 7 and 8 in equal proportions: the odd kWh is kind 7's. The causes leave kind 8 as it is.
-fn kind_8_split() {
+fn kind_8_split<W: Write>(out: &mut W) -> io::Result<()> {
     let first = span_of(30, 7, 0, GrossKwh(40000));
     let second = span_of(15, 8, 1, GrossKwh(40000));
     let third = span_of(15, 8, 2, GrossKwh(40000));
     let spans = three_spans(first, second, third);
-    split_example(b"kind 8", NetKwh(80000), NetKwh(10001), 3, spans);
+    split_example(out, b"kind 8", NetKwh(80000), NetKwh(10001), 3, spans)
 }
 
 // The commitment of 150,000 hub kWh leaves nothing of the declared 150,000.
-fn example_21() {
+fn example_21<W: Write>(out: &mut W) -> io::Result<()> {
     let declared = energy::net_of(GrossKwh(150000), 300);
     let gate = energy::gate_of(HubKwh(150000), 100);
     let unsold = declared.above(gate);
-    say(b"21 ");
-    say_number(unsold.0);
-    say(b"\n");
+    say(out, b"21 ")?;
+    say_number(out, unsold.0)?;
+    say(out, b"\n")
 }
 
 // A deviation of kinds 2, 3, 5, 6 and 8.
@@ -218,32 +226,49 @@ fn of_kind_8(d8: u64) -> Deviations
 }
 
 // The charge of a deviation by a base availability rate of 185,000, 0 where it is free.
-fn test_example(name: &[u8], d: Deviations, repair: u64, reading: NetKwh, since: u64, cpf: u64)
+fn test_example<W: Write>(
+    out: &mut W,
+    name: &[u8],
+    d: Deviations,
+    repair: u64,
+    reading: NetKwh,
+    since: u64,
+    cpf: u64,
+) -> io::Result<()>
     requires { Bounded d × (weighted d repair ≤ 10000000) × (cpf ≤ 10000) }
 {
     let q = charge::counted_deviation(d, repair);
-    say(name);
-    say(b" ");
+    say(out, name)?;
+    say(out, b" ")?;
     if charge::is_charged(q, true, reading, HubGrains(0), 0) {
         let w = charge::weighted(d, repair);
-        say_number(charge::charge_of(w, since, cpf, 185000));
+        say_number(out, charge::charge_of(w, since, cpf, 185000))?;
     } else {
-        say_number(0);
+        say_number(out, 0)?;
     }
-    say(b"\n");
+    say(out, b"\n")
 }
 
 // The refund of a unit that declared 98,000 net, with an own use of 2 per cent, by A: how much energy, and the amount.
-fn refund_example(name: &[u8], real: NetKwh, d: Deviations, a: GrossKwh)
+fn refund_example<W: Write>(
+    out: &mut W,
+    name: &[u8],
+    real: NetKwh,
+    d: Deviations,
+    a: GrossKwh,
+) -> io::Result<()>
     requires { (real.0 ≤ 1000000) × Bounded d × (a.0 ≤ 1000000) }
 {
     let declared = NetKwh(98000);
     let allowed = energy::net_of(a, 200);
     let short = formulas::refund_kwh(declared, real, d, allowed);
-    say(name);
-    say_next(short.0);
-    say_next(formulas::refund(declared, real, d, allowed, 1500, 185000));
-    say(b"\n");
+    say(out, name)?;
+    say_next(out, short.0)?;
+    say_next(
+        out,
+        formulas::refund(declared, real, d, allowed, 1500, 185000),
+    )?;
+    say(out, b"\n")
 }
 
 // The offer of examples 41, 42 and 44.
@@ -263,53 +288,69 @@ fn four_steps() -> Offer
 }
 
 // What a unit is paid for so much energy by that offer, without a commitment.
-fn energy_example(number: u64, energy: HubGrains)
+fn energy_example<W: Write>(out: &mut W, number: u64, energy: HubGrains) -> io::Result<()>
     requires { energy.0 ≤ 100000000000 }
 {
     let cost = offer::cost_between(four_steps(), HubKwh(0), HubGrains(0), energy);
-    say_number(number);
-    say_next(formulas::energy_pay(cost));
-    say(b"\n");
+    say_number(out, number)?;
+    say_next(out, formulas::energy_pay(cost))?;
+    say(out, b"\n")
 }
 
-fn refund_examples() {
+fn refund_examples<W: Write>(out: &mut W) -> io::Result<()> {
     let d5 = of_kinds(0, 0, 10000, 0, 0);
-    refund_example(b"23", NetKwh(90000), d5, GrossKwh(120000));
-    refund_example(b"24", NetKwh(70000), d5, GrossKwh(120000));
-    refund_example(b"25", NetKwh(90000), d5, GrossKwh(80000));
-    refund_example(b"kind 8", NetKwh(70000), of_kind_8(10000), GrossKwh(120000));
+    refund_example(out, b"23", NetKwh(90000), d5, GrossKwh(120000))?;
+    refund_example(out, b"24", NetKwh(70000), d5, GrossKwh(120000))?;
+    refund_example(out, b"25", NetKwh(90000), d5, GrossKwh(80000))?;
+    refund_example(
+        out,
+        b"kind 8",
+        NetKwh(70000),
+        of_kind_8(10000),
+        GrossKwh(120000),
+    )
 }
 
 // Of kind 8, W is three times the deviation: 2,000 kWh are free and one more is charged, on a repair day too; and so are 2,000 kWh where twenty
 // times them is the reading, and where it is one over it.
-fn test_examples() {
+fn test_examples<W: Write>(out: &mut W) -> io::Result<()> {
     let d2_d3 = of_kinds(10000, 20000, 0, 0, 0);
-    test_example(b"26", d2_d3, 0, NetKwh(80000), 1, 2000);
-    test_example(b"26", d2_d3, 0, NetKwh(80000), 2, 1980);
-    test_example(b"27", of_kinds(1800, 0, 0, 0, 0), 0, NetKwh(80000), 1, 2000);
+    test_example(out, b"26", d2_d3, 0, NetKwh(80000), 1, 2000)?;
+    test_example(out, b"26", d2_d3, 0, NetKwh(80000), 2, 1980)?;
+    test_example(
+        out,
+        b"27",
+        of_kinds(1800, 0, 0, 0, 0),
+        0,
+        NetKwh(80000),
+        1,
+        2000,
+    )?;
     let d6 = of_kinds(0, 0, 0, 40000, 0);
-    test_example(b"28", d6, 0, NetKwh(0), 1, 2000);
-    test_example(b"28", d6, 0, NetKwh(0), 2, 1980);
-    test_example(b"kind 8", of_kind_8(2000), 0, NetKwh(60000), 1, 2000);
-    test_example(b"kind 8", of_kind_8(2001), 0, NetKwh(60000), 1, 2000);
-    test_example(b"kind 8", of_kind_8(2001), 1, NetKwh(60000), 2, 2000);
-    test_example(b"kind 8", of_kind_8(2000), 0, NetKwh(40000), 1, 2000);
-    test_example(b"kind 8", of_kind_8(2000), 0, NetKwh(39999), 1, 2000);
+    test_example(out, b"28", d6, 0, NetKwh(0), 1, 2000)?;
+    test_example(out, b"28", d6, 0, NetKwh(0), 2, 1980)?;
+    test_example(out, b"kind 8", of_kind_8(2000), 0, NetKwh(60000), 1, 2000)?;
+    test_example(out, b"kind 8", of_kind_8(2001), 0, NetKwh(60000), 1, 2000)?;
+    test_example(out, b"kind 8", of_kind_8(2001), 1, NetKwh(60000), 2, 2000)?;
+    test_example(out, b"kind 8", of_kind_8(2000), 0, NetKwh(40000), 1, 2000)?;
+    test_example(out, b"kind 8", of_kind_8(2000), 0, NetKwh(39999), 1, 2000)
 }
 
-fn main() {
-    example_12();
-    example_13(3, 15);
-    example_13(6, 15);
-    example_13(3, 14);
-    example_13(6, 16);
-    example_16();
-    example_18();
-    kind_8_split();
-    example_21();
-    refund_examples();
-    test_examples();
-    energy_example(41, HubGrains(1200000000));
-    energy_example(42, HubGrains(750000000));
-    energy_example(44, HubGrains(1200000000));
+fn main(rt: HostRuntime) -> io::Result<()> {
+    let mut out = BufWriter::new(rt.alloc(), io::writer(&rt))?;
+    example_12(&mut out)?;
+    example_13(&mut out, 3, 15)?;
+    example_13(&mut out, 6, 15)?;
+    example_13(&mut out, 3, 14)?;
+    example_13(&mut out, 6, 16)?;
+    example_16(&mut out)?;
+    example_18(&mut out)?;
+    kind_8_split(&mut out)?;
+    example_21(&mut out)?;
+    refund_examples(&mut out)?;
+    test_examples(&mut out)?;
+    energy_example(&mut out, 41, HubGrains(1200000000))?;
+    energy_example(&mut out, 42, HubGrains(750000000))?;
+    energy_example(&mut out, 44, HubGrains(1200000000))?;
+    out.flush()
 }

@@ -7,12 +7,12 @@ use std::io::Write;
 use std::rt::Files;
 use std::{fs, io};
 
-// Reads calls.txt as far as the buffer goes, and gives how many bytes were read.
+// Reads calls.txt as far as the buffer goes, or up to a read that fails, and gives how many bytes were read.
 fn read_calls<R: Files>(rt: &R, text: &mut [u8]) -> usize
     ensures { result ≤ length text.new }
 {
     match fs::open(rt, "calls.txt") {
-        Ok(mut file) => file_bytes::read_full(&mut file, text),
+        Ok(mut file) => file_bytes::read_full(&mut file, text).0,
         Err(_) => 0,
     }
 }

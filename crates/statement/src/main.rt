@@ -8,12 +8,12 @@ use std::io::Write;
 use std::rt::Files;
 use std::{fs, io};
 
-// Reads day.txt as far as the buffer goes, and gives how many bytes were read.
+// Reads day.txt as far as the buffer goes, or up to a read that fails, and gives how many bytes were read.
 fn read_day<R: Files>(rt: &R, text: &mut [u8]) -> usize
     ensures { result ≤ length text.new }
 {
     match fs::open(rt, "day.txt") {
-        Ok(mut file) => file_bytes::read_full(&mut file, text),
+        Ok(mut file) => file_bytes::read_full(&mut file, text).0,
         Err(_) => 0,
     }
 }

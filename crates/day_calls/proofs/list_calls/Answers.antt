@@ -33,13 +33,13 @@ ends r true n room e f h = absurd (true鈮alse (sym (lt-ltb n room (h refl)) 鈭
 pub store_call-requires : goal.store_call-requires
 store_call-requires c =
     let l = c.loop-calls in
-    let on = goes _ _ _ _ c.stores_on.ensures c.loop-calls-test.true in
+    let on = goes c.stores_on.result l.step.more l.n (length c.args.calls.now / call_numbers) c.stores_on.ensures c.loop-calls-test.true in
     omega (arith, on.1, l.invariant.0)
 
 pub loop-calls-smaller : goal.loop-calls-smaller
 loop-calls-smaller c =
     let l = c.loop-calls in
-    let on = goes _ _ _ _ c.stores_on.ensures c.loop-calls-test.true in
+    let on = goes c.stores_on.result l.step.more l.n (length c.args.calls.now / call_numbers) c.stores_on.ensures c.loop-calls-test.true in
     let more = l.invariant.2.more on.0 in
     omega (arith, more.0, more.1)
 
@@ -47,7 +47,7 @@ pub loop-calls-preserved : goal.loop-calls-preserved
 loop-calls-preserved c =
     let g = c.args in
     let l = c.loop-calls in
-    let on = goes _ _ _ _ c.stores_on.ensures c.loop-calls-test.true in
+    let on = goes c.stores_on.result l.step.more l.n (length c.args.calls.now / call_numbers) c.stores_on.ensures c.loop-calls-test.true in
     let t = g.text.now in
     let room : l.n < length l.calls / call_numbers = omega (arith, on.1, l.invariant.0) in
     let stored = c.store_call.ensures in (
@@ -64,4 +64,4 @@ not-true false e = refl
 pub returns : goal.returns
 returns c =
     let g = c.args in
-    let l = c.loop-calls in record { lists = 位 all. listing_all g.text.now g.from l.calls l.n l.step l.invariant.2 (not-true _ all); calls_in_bounds = l.invariant.1; all_value = 位 enough. ends _ _ _ _ c.stores_on.ensures c.loop-calls-test.false (位 m. listing_room g.text.now g.from l.calls l.n _ l.step l.invariant.2 m enough) }
+    let l = c.loop-calls in record { lists = 位 all. listing_all g.text.now g.from l.calls l.n l.step l.invariant.2 (not-true _ all); calls_in_bounds = l.invariant.1; all_value = 位 enough. ends c.stores_on.result l.step.more l.n (length g.calls.now / call_numbers) c.stores_on.ensures c.loop-calls-test.false (位 m. listing_room g.text.now g.from l.calls l.n _ l.step l.invariant.2 m enough) }

@@ -1,6 +1,7 @@
 -- By the verdict: the fields one after the other, or nothing.
 -- Assumes nothing.
 use mir.Facts.{to_z-of_z}
+use mir.Syntax.{w64}
 use lib.IntN.{ℤ}
 use Rattle.ledger.specs.declared.Verdict.{Verdict}
 use Rattle.entries.specs.Tables.{total_line}
@@ -24,7 +25,7 @@ returns-in-Accepted c =
     (then o o1 (bytes "total") (field g.unit ++ (field g.item ++ (amount_field g.t.sum ++ ((10 ∷ []))))) c.put_bytes-a.ensures
     (then o1 o2 (field g.unit) (field g.item ++ (amount_field g.t.sum ++ ((10 ∷ [])))) c.put_field-b.ensures
     (then o2 o3 (field g.item) (amount_field g.t.sum ++ ((10 ∷ []))) c.put_field-c.ensures
-    (then o3 o4 (amount_field g.t.sum) (10 ∷ []) (c.put_amount-d.ensures ∙ ap (λ (z : ℤ). written o3 (amount_field z)) (to_z-of_z (record { sfits = c.struct_told-1.given.1.0.1 })))
+    (then o3 o4 (amount_field g.t.sum) (10 ∷ []) (c.put_amount-d.ensures ∙ ap (λ (z : ℤ). written o3 (amount_field z)) (to_z-of_z {w = w64} (record { sfits = c.struct_told-1.given.1.0.1 })))
     (c.put_byte.ensures ∙ sym (written_one o4 10)))))) ∙ ap (λ (v : Verdict). written o (total_line g.unit g.item v g.t.sum)) (sym c.in-Accepted.is)
 
 pub returns-in-Refused : goal.returns-in-Refused

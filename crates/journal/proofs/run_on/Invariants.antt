@@ -1,5 +1,10 @@
 use mathlib.Core.Path.{◌≡◌}
-use Prim.Native.Nat.{◌-◌, ◌≤◌}
+use Prim.Native.Nat.{ℕ, ◌-◌, ◌≤◌}
+use mathlib.Core.List.{List}
+use Rattle.sheet.specs.declared.Sheet.{Sheet}
+use Rattle.state.specs.declared.Book.{Book}
+use Rattle.postings.specs.declared.Posting.{Posting}
+use Rattle.series.specs.declared.Stand.{Stand}
 use Rattle.batch.specs.Run.{ran_all}
 use Rattle.batch.specs.Batches.{list_at}
 use Rattle.journal.proofs.Stood.{start, StandsAt}
@@ -15,7 +20,7 @@ pub record AfterCalls (sheet : Sheet) (calls text : List ℕ) (journal : List Po
 
 abbrev pub invariant-loop-stand : goal.invariant-loop-stand
 invariant-loop-stand l =
-    AfterCalls l.sheet l.calls l.text l.initial.list l.initial.answers l.count l.fn.book l.n l.list l.answers l.stand
+    AfterCalls l.sheet l.calls l.text l.fn.list l.fn.answers l.count l.fn.book l.n l.list l.answers l.stand
 
 abbrev pub decreases-loop-stand : goal.decreases-loop-stand
 decreases-loop-stand l = l.n - l.stand.next
