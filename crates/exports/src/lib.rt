@@ -1,5 +1,6 @@
 // What C and Rust programs call: slices of bytes and numbers in, slices of numbers out. include/gozalvek.h says what each argument is.
 #![tactic(auto)]
+
 ghost use Rattle.std.specs.Prelude.{◌≡◌, ◌<◌, ◌≤◌, min, length, set};
 ghost use Rattle.decimal.specs.Output.{output, filled};
 ghost use Rattle.listing.specs.Listing.{most_bytes};
