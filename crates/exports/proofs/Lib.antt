@@ -1,5 +1,4 @@
 pub mod Put
 pub mod Places
-pub mod Front
-pub mod Owner
+pub mod OwnList
 pub mod Called
