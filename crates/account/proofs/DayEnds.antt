@@ -195,13 +195,9 @@ module _ (sheet : Sheet) (text : List ℕ) where
           let fewer : (turned sheet text r).day.left ≤ k = ⊎_elim (λ z. omega arith) (λ z. omega arith) (left_next sheet text r) in
           rw (← (ran_next sheet text r j e)) (next fewer (omega arith))
 
-  first_lasts : (at : ℕ) → Lasts text (due_in (begun text at).day)
-  unfolding begun
-  first_lasts at = due_lasts text at (suc (length text)) (omega arith)
-
-  -- "until the day has ended": no call is left, and none is due
-  pub none_left : (at : ℕ) → let d = day_from sheet text at in d ≡ day_with d.count d.book (none_due d.refusal)
-  none_left at = by (ran_lasts (begun text at).day.left (begun text at) (omega arith) (first_lasts at))
+  -- where the first call has its bytes, no call is left at the end, and none is due
+  ended_at : (at : ℕ) → Lasts text (due_in (begun text at).day) → let d = day_from sheet text at in d ≡ day_with d.count d.book (none_due d.refusal)
+  ended_at at first = by (ran_lasts (begun text at).day.left (begun text at) (omega arith) first)
     where
       d : Day
       d = day_from sheet text at
@@ -213,3 +209,8 @@ module _ (sheet : Sheet) (text : List ℕ) where
 
       by : Ended (ran_out sheet text (begun text at)) → d ≡ day_with d.count d.book (none_due d.refusal)
       by e = ap (day_with d.count d.book) (due e.lasts e.last)
+
+  -- "until the day has ended"
+  pub none_left : (at : ℕ) → let d = day_from sheet text at in d ≡ day_with d.count d.book (none_due d.refusal)
+  unfolding begun
+  none_left at = ended_at at (due_lasts text at (suc (length text)) (omega arith))

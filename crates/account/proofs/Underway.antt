@@ -64,7 +64,7 @@ module _ (sheet : Sheet) (text : List ℕ) (at : ℕ) where
       record {
         list = list;
         places = length-replicate 2000 no_posting;
-        kept = record { sized = empty_sized; fits = (promise sheet list []).in-ranges };
+        kept = record { sized = empty_sized; fits = (promise sheet list []).in_ranges };
         ahead = refl;
       }
 

@@ -2,6 +2,7 @@
 -- Assumes nothing.
 use native.Mathlib.Omega.{arith}
 use borrow.Author.Tests.{eq-eqb, ne_eqb}
+use Rattle.account.specs.Statement.{day_lines}
 use Rattle.account.proofs.put_day.Goals as goal
 
 pub returns-then-day-eq0 : goal.returns-then-day-eq0

@@ -11,6 +11,7 @@ use Rattle.decimal.specs.Output.{output, written}
 use Rattle.decimal.proofs.Filled.{written_filled}
 use Rattle.listing.specs.Listing.{refusal_line}
 use Rattle.account.specs.declared.Day.{Day}
+use Rattle.account.specs.Statement.{day_lines, lines_by, statement_of}
 use Rattle.account.proofs.statement_of.Goals as goal
 
 pub day_of-requires : goal.day_of-requires

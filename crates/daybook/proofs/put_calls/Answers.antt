@@ -42,8 +42,8 @@ returns-then-extent-eq0 c =
     let d = c.day-stand in
     let n = c.turns_of.ensures ∙ ap turns_of x in
     let lines = (steps g.sheet t (begun g.from) (turns_of (extent_of t g.from))).bytes in
-    let o1 = output d.new.1.1.0 d.result.printed in
-    let w : o1 ≡ written o lines = left g.sheet t g.out.now d.new.1.1.0 g.from _ (turns_of (extent_of t g.from)) _ d.result n c.started.ensures d.ensures.0 d.ensures.1 in
+    let o1 = output d.new.out d.result.printed in
+    let w : o1 ≡ written o lines = left g.sheet t g.out.now d.new.out g.from _ (turns_of (extent_of t g.from)) _ d.result n c.started.ensures d.ensures.0 d.ensures.1 in
     let h : (extent_of t g.from).refusal ≡ 0 = ap (λ (e : Extent). e.refusal) (sym x) ∙ c.if-extent-eq0.true in
     simp (eq-eqb _ _ h) (then o o1 lines [] w (sym (written_none o1)))
 
@@ -57,7 +57,7 @@ returns c =
     let d = c.day-stand in
     let n = c.turns_of.ensures ∙ ap turns_of x in
     let lines = (steps g.sheet t (begun g.from) (turns_of (extent_of t g.from))).bytes in
-    let o1 = output d.new.1.1.0 d.result.printed in
-    let w : o1 ≡ written o lines = left g.sheet t g.out.now d.new.1.1.0 g.from _ (turns_of (extent_of t g.from)) _ d.result n c.started.ensures d.ensures.0 d.ensures.1 in
+    let o1 = output d.new.out d.result.printed in
+    let w : o1 ≡ written o lines = left g.sheet t g.out.now d.new.out g.from _ (turns_of (extent_of t g.from)) _ d.result n c.started.ensures d.ensures.0 d.ensures.1 in
     let h : (extent_of t g.from).refusal ≡ 0 → ⊥ = λ z. c.if-extent-eq0.false (ap (λ (e : Extent). e.refusal) x ∙ z) in
     simp (ne_eqb _ _ h) (then o o1 lines (stop_line (extent_of t g.from).line (extent_of t g.from).refusal) w (c.put_stop.ensures ∙ ap (λ (e : Extent). written o1 (stop_line e.line e.refusal)) x))
