@@ -33,8 +33,8 @@ module _ (text : List ℕ) (at e : ℕ) (he : e ≡ at + seek 10 10 (drop at tex
     kind_is : kind_of line ≡ kind_of (before 10 (drop at text))
     kind_is = ap kind_of (whole text at e he short)
 
-    value-is : value_of (row_of (kind_of line)) (value_part line) ≡ value_of (row_of (kind_of (before 10 (drop at text)))) (value_part (before 10 (drop at text)))
-    value-is = ap (λ (l : List ℕ). value_of (row_of (kind_of l)) (value_part l)) (whole text at e he short)
+    value_is : value_of (row_of (kind_of line)) (value_part line) ≡ value_of (row_of (kind_of (before 10 (drop at text)))) (value_part (before 10 (drop at text)))
+    value_is = ap (λ (l : List ℕ). value_of (row_of (kind_of l)) (value_part l)) (whole text at e he short)
 
     pub other_key : kind_of line ≡ 0 → not_asked 1 at ≡ asking_at text at
     unfolding asking_at
@@ -47,14 +47,14 @@ module _ (text : List ℕ) (at e : ℕ) (he : e ≡ at + seek 10 10 (drop at tex
       pub bad_value : ((value_of (row_of (kind_of line)) (value_part line)).code ≡ 0 → ⊥) → not_asked 2 at ≡ asking_at text at
       unfolding asking_at
       bad_value b =
-          let n : (value_of (row_of (kind_of (before 10 (drop at text)))) (value_part (before 10 (drop at text)))).code ≡ 0 → ⊥ = λ z. b (ap (λ (l : Line). l.code) value-is ∙ z) in
+          let n : (value_of (row_of (kind_of (before 10 (drop at text)))) (value_part (before 10 (drop at text)))).code ≡ 0 → ⊥ = λ z. b (ap (λ (l : Line). l.code) value_is ∙ z) in
           simp (lt-ltb _ _ ends, ne_eqb _ _ named, ne_eqb _ _ n)
 
       pub good_value : (value_of (row_of (kind_of line)) (value_part line)).code ≡ 0
           → asking_of text (kind_of line) (value_of (row_of (kind_of line)) (value_part line)).number e ≡ asking_at text at
       unfolding asking_at
       good_value g =
-          let n : (value_of (row_of (kind_of (before 10 (drop at text)))) (value_part (before 10 (drop at text)))).code ≡ 0 = ap (λ (l : Line). l.code) (sym value-is) ∙ g in
+          let n : (value_of (row_of (kind_of (before 10 (drop at text)))) (value_part (before 10 (drop at text)))).code ≡ 0 = ap (λ (l : Line). l.code) (sym value_is) ∙ g in
           (ap (λ (l : List ℕ). asking_of text (kind_of l) (value_of (row_of (kind_of l)) (value_part l)).number e) (whole text at e he short)
           ∙ ap (λ (j : ℕ). asking_of text (kind_of (before 10 (drop at text))) (value_of (row_of (kind_of (before 10 (drop at text)))) (value_part (before 10 (drop at text)))).number j) he)
           ∙ sym (simp (lt-ltb _ _ ends, ne_eqb _ _ named, eq-eqb _ _ n))

@@ -68,10 +68,10 @@ module _ (terms : DayTerms) (offers calls text answers : List ℕ) (t : Table) (
           u.long less u.rows_long
 
       -- a call carried out on what is under way
-      module _ (t'' : Table) (rows'' : List ℤ) (done : Done) (call : Call) (call-is : call ≡ decoded (asked_at calls (first + turns)))
+      module _ (t'' : Table) (rows'' : List ℤ) (done : Done) (call : Call) (call_is : call ≡ decoded (asked_at calls (first + turns)))
           (made : Carried terms offers (call_of text call) total places t' filled rows' t'' rows'' done) (less : filled < 16) where
         carried : Carried terms offers (call_of text (decoded (asked_at calls (first + turns)))) total places t' filled rows' t'' rows'' done
-        carried = rw call-is at made
+        carried = rw call_is at made
 
         pub total_fits : total + posted_of done.answer < 2 ^ 64
         total_fits =

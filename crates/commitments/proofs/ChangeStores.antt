@@ -35,13 +35,13 @@ less_after c i j x l s = by (eqb j i) refl
     by false e = rw (get_or-set_other c i j x 0 (eqb-false j i e)) (omega arith)
 
 module _ (c mark offers : List ℕ) (units : ℕ) (x : CommitmentChange) (h from to : ℕ) (member : Bool) (last : HubKwh)
-    (h-is : h ≡ hour_index x.hour) (from_is : from ≡ entry_index x.hour x.from) (to_is : to ≡ entry_index x.hour x.to)
+    (h_is : h ≡ hour_index x.hour) (from_is : from ≡ entry_index x.hour x.from) (to_is : to ≡ entry_index x.hour x.to)
     (member_is : member ≡ member_at units (to % places)) (last_is : last ≡ limit_of member (offer_in offers to)) where
   abbrev found : Verdict
   found = verdict (change_tests units x (eqb (get_or mark h 0) settled_mark) (get_or c from 0) (get_or c to 0) last.0)
 
   found_is : verdict_in c mark offers units x ≡ found
-  found_is = rw (last_is, member_is, h-is, from_is, to_is)
+  found_is = rw (last_is, member_is, h_is, from_is, to_is)
 
   pub refused_change : (r : Refusal) → found ≡ fails r → ◌≡◌ {A = Changed} (record { commitment = c; answer = Refused r }) (changed_in c mark offers units x)
   unfolding changed_in

@@ -98,4 +98,4 @@ module _ {day : HourSheet} {r : Record} {held : List HubKwh} where
   due_given d = record { sheet = d.sheet; is = d.is; read = d.ready.read }
 
   pub due_range : HourDue day r held → InRange day.units r
-  due_range d = rw (ap (λ (x : HourSheet). x.units) d.is ∙ hour_units d.sheet r.hour) d.ready.read.in_range_lem
+  due_range d = rw (ap (λ (x : HourSheet). x.units) d.is ∙ hour_units d.sheet r.hour) d.ready.read.in_range

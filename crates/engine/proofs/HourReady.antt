@@ -205,7 +205,7 @@ module _ {terms : DayTerms} {offers : List ℕ} {t : Table} {text : List ℕ} {s
             is = at_day ∙ ap (hour_sheet s) at_place.1;
             ready =
                 record {
-                  read = record { sheet_holds_lem = under.holds; in_range_lem = at_range };
+                  read = record { sheet_holds = under.holds; in_range = at_range };
                   committed = λ k m.
                       let l = place_lt s.units k m in
                       rw (at_held, hour_commitment (book_in t) h k l)

@@ -25,7 +25,7 @@ use Rattle.ledger.proofs.Accepted.{Taken, record_told, take_open, release_open, 
 
 -- a record that stands for an hour, under the hour's commitments by unit
 pub record StandsFor (sheet : Sheet) (hour : ℕ) (r : Record) (f : ℕ → ℕ) : Type 0 where
-  pub sheet_holds_lem : sheet_holds sheet ≡ true
+  pub sheet_holds : sheet_holds sheet ≡ true
   pub range : InRange sheet.units r
   pub hour_is : r.hour ≡ hour
   pub committed : (k : ℕ) → member_at sheet.units k ≡ true → f (k + 1) ≤ 1000000
@@ -85,7 +85,7 @@ module _ (sheet : Sheet) (room : ℕ) where
       let high = t.range.hour_most in
       let back : hour - 1 + 1 ≡ hour = omega arith in
       record {
-        sheet_holds_lem = t.holds;
+        sheet_holds = t.holds;
         range = subst (λ (x : Record). InRange sheet.units x) same t.range;
         hour_is = ap (λ (x : Record). x.hour) (sym same);
         committed = λ k m. subst (λ (x : ℕ). l.commitment x (k + 1) ≤ 1000000) back (held_most l t.holds fits (hour - 1) k (omega arith) m);

@@ -22,7 +22,7 @@ use Rattle.ledger.proofs.Ready.{StandsFor}
 pub hour_ready : (sheet : Sheet) (hour : ℕ) (r : Record) (f : ℕ → ℕ) → StandsFor sheet hour r f → HourReady sheet r (hour_held f)
 hour_ready sheet hour r f s =
     record {
-      read = record { sheet_holds_lem = s.sheet_holds_lem; in_range_lem = s.range };
+      read = record { sheet_holds = s.sheet_holds; in_range = s.range };
       committed = λ k m.
           rw (get_d_tabulate {A = HubKwh} 8 (λ k. record { 0 = f (k + 1) }) k (record { 0 = 0 }) (place_lt sheet.units k m)) (s.committed k m);
     }

@@ -12,7 +12,7 @@ use lib.ListN.{length, get_or, take}
 use lib.Seq.{take-suc, take-length, length-take-le, get_or-take}
 use Rattle.finite.proofs.Tests.{and_left}
 use Rattle.state.specs.Ranges.{within}
-use Rattle.state.proofs.Entries.{and-true}
+use Rattle.state.proofs.Entries.{and_true}
 use Rattle.postings.specs.declared.Posting.{Posting}
 use Rattle.postings.specs.declared.Scanned.{Scanned}
 use Rattle.postings.specs.Journal.{no_posting, most_postings, most_posted, posted_hold, is_of, total_of, most_before, scanned_with, scanned_to, scanned}
@@ -20,7 +20,7 @@ use Rattle.postings.proofs.Totals.{posted_append, total_more, total_size}
 
 posted_one : (x : Posting) → posted_hold (x ∷ []) ≡ within x.amount most_posted
 unfolding posted_hold
-posted_one x = and-true (within x.amount most_posted)
+posted_one x = and_true (within x.amount most_posted)
 
 -- one posting at the end
 pub posted_more : (l : List Posting) (x : Posting) → posted_hold (l ++ (x ∷ [])) ≡ (posted_hold l && within x.amount most_posted)

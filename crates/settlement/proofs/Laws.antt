@@ -47,7 +47,7 @@ module _ (sheet : Sheet) (r : Record) (commitment : List HubKwh) where
       → (get_or commitment k (record { 0 = 0 })).0 ≤ (last_quantity (offer_at (sheet_unit sheet.unit k) (r.hour - 1))).0)
       → HourReady sheet r commitment
   ready s i c =
-      let read : HourRead sheet r = record { sheet_holds_lem = s; in_range_lem = i } in
+      let read : HourRead sheet r = record { sheet_holds = s; in_range = i } in
       record {
         read = read;
         committed = λ k m.

@@ -58,7 +58,7 @@ module _ (sheet : Sheet) (r : Record) where
 
   module _ (h : HourRead sheet r) where
     sheet_in : SheetInRange sheet
-    sheet_in = in_range_lem sheet h.sheet_holds_lem
+    sheet_in = in_range_lem sheet h.sheet_holds
 
     pub sheet_unit_in : (k : ℕ) → member_at sheet.units k ≡ true → SheetUnitInRange (sheet_unit sheet.unit k)
     sheet_unit_in k m = sheet_in.unit k (place_lt sheet.units k m) m
@@ -67,23 +67,23 @@ module _ (sheet : Sheet) (r : Record) where
     own_most k m = (sheet_unit_in k m).own
 
     hour_offered : (k : ℕ) → member_at sheet.units k ≡ true → offer_holds (hour_offer sheet r k) ≡ true
-    hour_offered k m = (sheet_unit_in k m).offers (r.hour - 1) (omega (arith, h.in_range_lem.hour_least, h.in_range_lem.hour_most))
+    hour_offered k m = (sheet_unit_in k m).offers (r.hour - 1) (omega (arith, h.in_range.hour_least, h.in_range.hour_most))
 
     pub rates_ready : RatesReady (rates_of sheet r.hour)
     unfolding rates_of
     rates_ready =
         record {
           loss = sheet_in.loss;
-          cpf = sheet_in.cpf (r.hour - 1) (omega (arith, h.in_range_lem.hour_least, h.in_range_lem.hour_most));
+          cpf = sheet_in.cpf (r.hour - 1) (omega (arith, h.in_range.hour_least, h.in_range.hour_most));
           bar = sheet_in.bar;
         }
 
     -- for the drawn energy's price
     pub drawn_ready : (r.reverse.0 ≤ 8000000) × (sheet.ceiling ≤ 10000000) × (sheet.loss ≤ 2000)
-    drawn_ready = (h.in_range_lem.reverse, sheet_in.ceiling, sheet_in.loss)
+    drawn_ready = (h.in_range.reverse, sheet_in.ceiling, sheet_in.loss)
 
     pub net_most : r.net.0 ≤ 8000000
-    net_most = h.in_range_lem.net
+    net_most = h.in_range.net
 
   module _ (commitment : List HubKwh) (h : HourReady sheet r commitment) where
     pub plant_holds : PlantHolds (plant_of sheet r commitment)
@@ -100,7 +100,7 @@ module _ (sheet : Sheet) (r : Record) where
               let nominal : get_or (tabulate 8 (λ k. (sheet_unit sheet.unit k).nominal)) k (record { 0 = 0 }) ≡ (sheet_unit sheet.unit k).nominal
               = get_d_tabulate 8 (λ k. (sheet_unit sheet.unit k).nominal) k (record { 0 = 0 }) l in
               record {
-                able = omega (arith, ap (λ (n : NetKwh). n.0) real, (h.read.in_range_lem.unit k m).real);
+                able = omega (arith, ap (λ (n : NetKwh). n.0) real, (h.read.in_range.unit k m).real);
                 rated =
                     let e = ap (λ (g : GrossKwh). g.0) nominal in
                     (omega (arith, e, u.nominal_least), omega (arith, e, u.nominal_most));
@@ -121,7 +121,7 @@ module _ (sheet : Sheet) (r : Record) where
           own_use = own_most h.read k m;
           offered = hour_offered h.read k m;
           committed = h.committed k m;
-          in_range_lem = h.read.in_range_lem.unit k m;
+          in_range = h.read.in_range.unit k m;
           allocated = hour_most k (place_lt sheet.units k m);
         }
 

@@ -50,8 +50,8 @@ within : {n m : ℕ} → n ≤ m → m ≤ most → n ≤ most
 within h k = omega arith
 
 module _ (rates : Rates) (own : ℕ) (offer : Offer) (commitment : HubKwh) (u : UnitRecord) (energy : HubGrains) (rated : RatesReady rates) (h : UnitReady own offer commitment u energy) where
-  declared-most : (net_of u.declared own).0 ≤ 1000000
-  declared-most = omega (arith, net_le u.declared own, h.in_range_lem.declared)
+  declared_most : (net_of u.declared own).0 ≤ 1000000
+  declared_most = omega (arith, net_le u.declared own, h.in_range.declared)
 
   energy_item_most : nat_abs (energy_item offer commitment energy) ≤ 80000000000
   unfolding energy_item
@@ -65,7 +65,7 @@ module _ (rates : Rates) (own : ℕ) (offer : Offer) (commitment : HubKwh) (u : 
   availability_item_most : nat_abs (availability_item rates (net_of u.declared own) commitment) ≤ 10000000000
   unfolding availability_item
   availability_item_most =
-      availability_most (net_of u.declared own) rates.cpf rates.bar declared-most rated.cpf rated.bar (gate_of commitment rates.loss)
+      availability_most (net_of u.declared own) rates.cpf rates.bar declared_most rated.cpf rated.bar (gate_of commitment rates.loss)
 
   refund_item_most : (real allowed : NetKwh) → nat_abs (refund_item rates (net_of u.declared own) real (deviations_of own u) allowed) ≤ 10000000000
   unfolding refund_item
@@ -73,13 +73,13 @@ module _ (rates : Rates) (own : ℕ) (offer : Offer) (commitment : HubKwh) (u : 
       omega (
         arith,
         owed_size (refund (net_of u.declared own) real (deviations_of own u) allowed rates.cpf rates.bar),
-        refund_most (net_of u.declared own) rates.cpf rates.bar declared-most rated.cpf rated.bar real (deviations_of own u) allowed,
+        refund_most (net_of u.declared own) rates.cpf rates.bar declared_most rated.cpf rated.bar real (deviations_of own u) allowed,
       )
 
   -- item 4: W is at most 10^7
   w_range : (weighted (deviations_of own u) u.repair ≤ 10000000) × (rates.cpf ≤ 10000) × (rates.bar ≤ 1000000)
   w_range =
-      let w = weighted_most (deviations_of own u) 1000000 (split_ready own u h.in_range_lem) u.repair in (omega arith, rated.cpf, rated.bar)
+      let w = weighted_most (deviations_of own u) 1000000 (split_ready own u h.in_range) u.repair in (omega arith, rated.cpf, rated.bar)
 
   test_item_most : (measured : Bool) (reading : NetKwh) → nat_abs (test_item rates measured reading u.repair u.since (deviations_of own u) energy) ≤ 41000000000
   unfolding test_item

@@ -51,7 +51,7 @@ module _ (sheet : Sheet) (r : Record) where
 of_sheet : (sheet : Sheet) (r : Record) → HourRead sheet r → (k : ℕ) → k < 8
     → let d = hour_sheet_with sheet r.hour (hour_offers sheet (r.hour - 1)) in
     member_at d.units k ≡ true → (get_or d.own k 0 ≤ 10000) × UnitInRange (record_unit r k)
-of_sheet sheet r i k l m = (omega (arith, own_at_lem sheet r k l, own_most sheet r i k m), i.in_range_lem.unit k m)
+of_sheet sheet r i k l m = (omega (arith, own_at_lem sheet r k l, own_most sheet r i k m), i.in_range.unit k m)
 
 pub given_unit : (day : HourSheet) (r : Record) → HourGiven day r → (k : ℕ) → k < 8 → member_at day.units k ≡ true
     → (get_or day.own k 0 ≤ 10000) × UnitInRange (record_unit r k)

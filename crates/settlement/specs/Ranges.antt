@@ -25,8 +25,8 @@ use Rattle.terms.specs.Terms.{hour_sheet}
 
 -- the sheet passes refusal 9, and the record was read for its units
 pub record HourRead (sheet : Sheet) (r : Record) : Type 0 where
-  pub sheet_holds_lem : sheet_holds sheet ≡ true
-  pub in_range_lem : InRange sheet.units r
+  pub sheet_holds : sheet_holds sheet ≡ true
+  pub in_range : InRange sheet.units r
 
 -- and no commitment is over 10^6, as 12 keeps it
 pub record HourReady (sheet : Sheet) (r : Record) (commitment : List HubKwh) : Type 0 where
@@ -54,7 +54,7 @@ pub record UnitReady (own : ℕ) (offer : Offer) (commitment : HubKwh) (u : Unit
   pub own_use : own ≤ 2000
   pub offered : offer_holds offer ≡ true
   pub committed : commitment.0 ≤ 1000000
-  pub in_range_lem : UnitInRange u
+  pub in_range : UnitInRange u
   pub allocated : energy.0 ≤ 80000000000
 
 -- for the code: the amounts of place k, by what was taken out of the sheet and the record, and the ranges that they rest on

@@ -34,9 +34,9 @@ pub and_false : (a : Bool) → (a && false) ≡ false
 and_false true = refl
 and_false false = refl
 
-pub and-true : (a : Bool) → (a && true) ≡ a
-and-true true = refl
-and-true false = refl
+pub and_true : (a : Bool) → (a && true) ≡ a
+and_true true = refl
+and_true false = refl
 
 pub same_or_not : (a b : ℕ) → (a ≡ b) ⊎ (a ≡ b → ⊥)
 same_or_not a b = by (eqb a b) refl
@@ -71,7 +71,7 @@ module _ {A : Type 0} (none : A) (h units : ℕ) (new old : List A) where
 
   same : (n : ℕ) → n < places → touched (n + 1) (entry_of h n) ≡ member_at units n
   same n l =
-      rw (entry_place h n l, entry_hour h n l, lt-ltb n (n + 1) (omega arith), eq-eqb h h refl) (and-true (member_at units n))
+      rw (entry_place h n l, entry_hour h n l, lt-ltb n (n + 1) (omega arith), eq-eqb h h refl) (and_true (member_at units n))
 
   module _ (n : ℕ) (l : List A) (s : Stored n l) (below : n < places) where
     entry_in : h < hours → member_at units n ≡ true → (j : ℕ) → j < entries

@@ -28,11 +28,11 @@ returns-then-kind-eq0 c =
     let s : f.result < length t = omega (arith, c.if-text-e.false) in record { value = c.nothing_asked-then-kind-eq0.ensures ∙ other_key t g.at f.result f.ensures s (sym c.kind_of-kind.ensures ∙ c.if-kind-eq0.true); at_lt_next = λ z. absurd (let n : ◌≡◌ {A = ℕ} 1 0 = ap (λ (x : Asking). x.refusal) (sym c.nothing_asked-then-kind-eq0.ensures) ∙ z in omega arith) }
 
 -- what is read of the value is that of the line
-value-is : (c : After-read_value-l) →
+value_is : (c : After-read_value-l) →
     let g = c.args in
     let line = take (c.find-e.result - g.at) (drop g.at g.text.now) in
     c.read_value-l.result ≡ value_of (row_of (kind_of line)) (value_part line)
-value-is c =
+value_is c =
     let g = c.args in
     let line = take (c.find-e.result - g.at) (drop g.at g.text.now) in
     c.read_value-l.ensures
@@ -46,7 +46,7 @@ returns-then-l-ne0 c =
     let f = c.find-e in
     let s : f.result < length t = omega (arith, c.if-text-e.false) in
     let known : kind_of (take (f.result - g.at) (drop g.at t)) ≡ 0 → ⊥ = λ z. c.if-kind-eq0.false (c.kind_of-kind.ensures ∙ z) in
-    let v = value-is (goal.at.returns-then-l-ne0 c).After-read_value-l in record { value = c.nothing_asked-then-l-ne0.ensures ∙ bad_value t g.at f.result f.ensures s known (λ z. c.if-l-ne0.true (ap (λ (l : Line). l.code) v ∙ z)); at_lt_next = λ z. absurd (let n : ◌≡◌ {A = ℕ} 2 0 = ap (λ (x : Asking). x.refusal) (sym c.nothing_asked-then-l-ne0.ensures) ∙ z in omega arith) }
+    let v = value_is (goal.at.returns-then-l-ne0 c).After-read_value-l in record { value = c.nothing_asked-then-l-ne0.ensures ∙ bad_value t g.at f.result f.ensures s known (λ z. c.if-l-ne0.true (ap (λ (l : Line). l.code) v ∙ z)); at_lt_next = λ z. absurd (let n : ◌≡◌ {A = ℕ} 2 0 = ap (λ (x : Asking). x.refusal) (sym c.nothing_asked-then-l-ne0.ensures) ∙ z in omega arith) }
 
 pub returns : goal.returns
 returns c =
@@ -55,6 +55,6 @@ returns c =
     let f = c.find-e in
     let s : f.result < length t = omega (arith, c.if-text-e.false) in
     let known : kind_of (take (f.result - g.at) (drop g.at t)) ≡ 0 → ⊥ = λ z. c.if-kind-eq0.false (c.kind_of-kind.ensures ∙ z) in
-    let v = value-is (goal.at.returns c).After-read_value-l in
+    let v = value_is (goal.at.returns c).After-read_value-l in
     let k = c.kind_of-kind in
     let r = c.read_value-l.result in record { value = ((c.asking_of.ensures.value ∙ ap (λ (n : ℕ). asking_of t n r.number f.result) k.ensures) ∙ ap (λ (l : Line). asking_of t (kind_of (take (f.result - g.at) (drop g.at t))) l.number f.result) v) ∙ good_value t g.at f.result f.ensures s known (ap (λ (l : Line). l.code) (sym v) ∙ c.if-l-ne0.false); at_lt_next = λ z. omega (arith, c.asking_of.ensures.e_lt_next, f.ensures) }

@@ -22,8 +22,8 @@ room : (c : In-loop-terms) → (c.args.first + c.loop-terms.turns < c.args.n) ×
 room c = going _ _ _ (sym c.has_room.ensures ∙ c.loop-terms-test.true)
 
 -- the call that is carried out is the one that is next
-call-is : (c : After-carry_out-done) → c.decode-call.result ≡ decoded (asked_at c.args.calls.now (c.args.first + c.loop-terms.turns))
-call-is c = c.decode-call.ensures ∙ ap decoded c.asked_at.ensures
+call_is : (c : After-carry_out-done) → c.decode-call.result ≡ decoded (asked_at c.args.calls.now (c.args.first + c.loop-terms.turns))
+call_is c = c.decode-call.ensures ∙ ap decoded c.asked_at.ensures
 
 pub carry_out-done-requires : goal.carry_out-done-requires
 carry_out-done-requires c = ready_now _ _ _ _ _ _ _ _ _ _ _ _ c.requires _ _ _ _ _ _ _ c.loop-terms.invariant (room (goal.at.carry_out-done-requires c).In-loop-terms).1
@@ -33,7 +33,7 @@ bounds-hours-filled c = omega (arith, (room (goal.at.bounds-hours-filled c).In-l
 
 pub overflow_add-total : goal.overflow_add-total
 overflow_add-total c =
-    omega (arith, c.posted_of-posted.ensures, total_fits _ _ _ _ _ _ _ _ _ _ _ _ c.requires _ _ _ _ _ _ _ c.loop-terms.invariant _ _ _ _ (call-is (goal.at.overflow_add-total c).After-carry_out-done) c.carry_out-done.ensures (room (goal.at.overflow_add-total c).In-loop-terms).1)
+    omega (arith, c.posted_of-posted.ensures, total_fits _ _ _ _ _ _ _ _ _ _ _ _ c.requires _ _ _ _ _ _ _ c.loop-terms.invariant _ _ _ _ (call_is (goal.at.overflow_add-total c).After-carry_out-done) c.carry_out-done.ensures (room (goal.at.overflow_add-total c).In-loop-terms).1)
 
 pub overflow_add-filled : goal.overflow_add-filled
 overflow_add-filled c = omega (arith, (room (goal.at.overflow_add-filled c).In-loop-terms).1, c.entries_of-filled.ensures, one_entry c.carry_out-done.result.answer)
@@ -49,7 +49,7 @@ loop-terms-preserved c =
     let p = c.requires in
     let u = c.loop-terms.invariant in
     let kept = c.carry_out-done.auto in
-    onward _ _ _ _ _ _ _ _ _ _ _ _ p _ _ _ _ _ _ _ u _ _ _ _ (call-is (goal.at.loop-terms-preserved c).After-carry_out-done) c.carry_out-done.ensures (room (goal.at.loop-terms-preserved c).In-loop-terms).1 _ _ _ _ _
+    onward _ _ _ _ _ _ _ _ _ _ _ _ p _ _ _ _ _ _ _ u _ _ _ _ (call_is (goal.at.loop-terms-preserved c).After-carry_out-done) c.carry_out-done.ensures (room (goal.at.loop-terms-preserved c).In-loop-terms).1 _ _ _ _ _
     c.number_of.ensures c.line_of.ensures c.posted_of-posted.ensures c.entries_of-filled.ensures c.reply.ensures
     (record {
       commitment = kept.commitment ∙ u.long.commitment;

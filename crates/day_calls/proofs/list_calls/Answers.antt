@@ -57,11 +57,11 @@ loop-calls-preserved c =
           (listing_next t g.from l.calls l.n l.step l.invariant.2 on.0 room _ c.step_at-step-in-loop-calls.ensures),
     )
 
-not-true : (b : Bool) → not b ≡ true → b ≡ false
-not-true true e = absurd (true≢false (sym e))
-not-true false e = refl
+not_true : (b : Bool) → not b ≡ true → b ≡ false
+not_true true e = absurd (true≢false (sym e))
+not_true false e = refl
 
 pub returns : goal.returns
 returns c =
     let g = c.args in
-    let l = c.loop-calls in record { lists = λ all. listing_all g.text.now g.from l.calls l.n l.step l.invariant.2 (not-true _ all); calls_in_bounds = l.invariant.1; all_value = λ enough. ends c.stores_on.result l.step.more l.n (length g.calls.now / call_numbers) c.stores_on.ensures c.loop-calls-test.false (λ m. listing_room g.text.now g.from l.calls l.n _ l.step l.invariant.2 m enough) }
+    let l = c.loop-calls in record { lists = λ all. listing_all g.text.now g.from l.calls l.n l.step l.invariant.2 (not_true _ all); calls_in_bounds = l.invariant.1; all_value = λ enough. ends c.stores_on.result l.step.more l.n (length g.calls.now / call_numbers) c.stores_on.ensures c.loop-calls-test.false (λ m. listing_room g.text.now g.from l.calls l.n _ l.step l.invariant.2 m enough) }

@@ -1,4 +1,4 @@
--- Each case has its number in the definition; that of a text is the reader's. The search finds the proofs of all other needs.
+-- Each case has its number in the definition; that of a text is the reader's. The search finds the proofs of all other goals.
 -- Assumes nothing.
 use mathlib.Core.Path.{sym, ◌∙◌, ap}
 use Rattle.ledger.specs.Numbers.{refusal_number}

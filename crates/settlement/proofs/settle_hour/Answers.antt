@@ -11,10 +11,10 @@ use Rattle.settlement.proofs.settle_hour.Goals.{After-allocate-energy}
 use Rattle.settlement.proofs.settle_hour.Goals as goal
 
 -- the energies are those of the definition's plant
-energies-here : (c : After-allocate-energy) →
+energies_here : (c : After-allocate-energy) →
     let a = c.args in
     c.allocate-energy.result ≡ energies a.hour.net a.hour.reverse (plant_by a.day a.hour a.commitment)
-energies-here c =
+energies_here c =
     let a = c.args in
     c.allocate-energy.ensures ∙ ap (energies a.hour.net a.hour.reverse) c.plant_of-plant.ensures
 
@@ -33,7 +33,7 @@ hour_amounts-amounts-requires c =
     let a = c.args in
     let d = drawn_due a.day a.hour a.commitment c.requires in (
       rates_due a.day a.hour a.commitment c.requires,
-      rw (energies-here (goal.at.hour_amounts-amounts-requires c).After-allocate-energy, c.plant_of-plant.ensures) (units_due a.day a.hour a.commitment c.requires),
+      rw (energies_here (goal.at.hour_amounts-amounts-requires c).After-allocate-energy, c.plant_of-plant.ensures) (units_due a.day a.hour a.commitment c.requires),
       omega (arith, c.drawn_pay-drawn.ensures, drawn_most a.hour.reverse a.hour.net a.day.ceiling a.day.rates.loss d.0 d.1),
     )
 
@@ -41,7 +41,7 @@ pub returns : goal.returns
 unfolding hour_by
 returns c =
     let a = c.args in
-    let energy = energies-here (goal.at.returns c).After-allocate-energy in
+    let energy = energies_here (goal.at.returns c).After-allocate-energy in
     let plant = c.plant_of-plant.ensures in
     let amounts =
     c.hour_amounts-amounts.ensures

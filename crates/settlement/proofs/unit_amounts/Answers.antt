@@ -18,38 +18,38 @@ use Rattle.settlement.proofs.unit_amounts.Goals.{After-net_of-declared, After-sp
 use Rattle.settlement.proofs.unit_amounts.Goals as goal
 
 -- D and the split are in range
-declared-most : (c : After-net_of-declared) → c.net_of-declared.result.0 ≤ 1000000
-declared-most c =
-    omega (arith, ap (λ (n : NetKwh). n.0) c.net_of-declared.ensures, net_le c.args.u.declared c.args.own, c.requires.1.in_range_lem.declared)
+declared_most : (c : After-net_of-declared) → c.net_of-declared.result.0 ≤ 1000000
+declared_most c =
+    omega (arith, ap (λ (n : NetKwh). n.0) c.net_of-declared.ensures, net_le c.args.u.declared c.args.own, c.requires.1.in_range.declared)
 
-split-here : (c : After-split-d) → SplitReady c.split-d.result
-split-here c = rw c.split-d.ensures (split_ready c.args.own c.args.u c.requires.1.in_range_lem)
+split_here : (c : After-split-d) → SplitReady c.split-d.result
+split_here c = rw c.split-d.ensures (split_ready c.args.own c.args.u c.requires.1.in_range)
 
 pub net_of-declared-requires : goal.net_of-declared-requires
-net_of-declared-requires c = (omega (arith, c.requires.1.in_range_lem.declared), omega (arith, c.requires.1.own_use))
+net_of-declared-requires c = (omega (arith, c.requires.1.in_range.declared), omega (arith, c.requires.1.own_use))
 
 pub declaration_ceiling-ceiling-requires : goal.declaration_ceiling-ceiling-requires
-declaration_ceiling-ceiling-requires c = omega (arith, c.requires.1.in_range_lem.power)
+declaration_ceiling-ceiling-requires c = omega (arith, c.requires.1.in_range.power)
 
 pub net_of-allowed-requires : goal.net_of-allowed-requires
 net_of-allowed-requires c =
     let m = ceiling_most c.args.rates.season c.args.u.power in
-    (omega (arith, m, c.requires.1.in_range_lem.power, ap (λ (g : GrossKwh). g.0) c.declaration_ceiling-ceiling.ensures), omega (arith, c.requires.1.own_use))
+    (omega (arith, m, c.requires.1.in_range.power, ap (λ (g : GrossKwh). g.0) c.declaration_ceiling-ceiling.ensures), omega (arith, c.requires.1.own_use))
 
 pub split-d-requires : goal.split-d-requires
-split-d-requires c = (omega (arith, c.requires.1.own_use), c.requires.1.in_range_lem)
+split-d-requires c = (omega (arith, c.requires.1.own_use), c.requires.1.in_range)
 
 pub energy_item-paid-requires : goal.energy_item-paid-requires
 energy_item-paid-requires c = let r = c.requires.1 in (r.offered, r.committed, r.allocated)
 
 pub availability_item-available-requires : goal.availability_item-available-requires
-availability_item-available-requires c = (c.requires.0, declared-most (goal.at.availability_item-available-requires c).After-net_of-declared, c.requires.1.committed)
+availability_item-available-requires c = (c.requires.0, declared_most (goal.at.availability_item-available-requires c).After-net_of-declared, c.requires.1.committed)
 
 pub refund_item-refunded-requires : goal.refund_item-refunded-requires
-refund_item-refunded-requires c = (c.requires.0, declared-most (goal.at.refund_item-refunded-requires c).After-net_of-declared)
+refund_item-refunded-requires c = (c.requires.0, declared_most (goal.at.refund_item-refunded-requires c).After-net_of-declared)
 
 pub test_item-tested-requires : goal.test_item-tested-requires
-test_item-tested-requires c = (c.requires.0, split-here (goal.at.test_item-tested-requires c).After-split-d)
+test_item-tested-requires c = (c.requires.0, split_here (goal.at.test_item-tested-requires c).After-split-d)
 
 pub owed-owed-requires : goal.owed-owed-requires
 owed-owed-requires c = omega (arith, c.requires.2)
