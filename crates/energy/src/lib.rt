@@ -6,19 +6,19 @@ ghost use Rattle.std.specs.Prelude.{◌≡◌, ◌+◌, ◌*◌, ◌-◌, ◌/�
 ghost use Rattle.energy.specs.Energy.{net_of, hub_of, gate_of, grains_of, pay_of};
 
 // Gross energy in kWh.
-#[derive(Clone, Copy)]
+#[derive(Clone, Copy, PartialEq, Eq, PartialOrd, Ord)]
 pub struct GrossKwh(pub u64);
 
 // Net energy at the gate in kWh.
-#[derive(Clone, Copy)]
+#[derive(Clone, Copy, PartialEq, Eq, PartialOrd, Ord)]
 pub struct NetKwh(pub u64);
 
 // Hub energy in whole kWh, as in offers and commitments.
-#[derive(Clone, Copy)]
+#[derive(Clone, Copy, PartialEq, Eq, PartialOrd, Ord)]
 pub struct HubKwh(pub u64);
 
 // Hub energy in grains of 0.1 Wh.
-#[derive(Clone, Copy)]
+#[derive(Clone, Copy, PartialEq, Eq, PartialOrd, Ord)]
 pub struct HubGrains(pub u64);
 
 // Net of gross: less the unit's own use, in ten-thousandths.
