@@ -1,0 +1,44 @@
+-- What the comparisons of two energies, which are derived, say of their amounts.
+-- Assumes nothing.
+use Rattle.std.proofs.Common.{rules, ◌≡◌, ◌∙◌, sym, ℕ, ◌≤◌, ◌<◌, true, false}
+use Rattle.std.specs.Prelude.{ltb, leb}
+use Rattle.std.specs.Ordering.{nat_cmp, is_lt, is_gt, is_le, is_ge}
+use Rattle.std.proofs.lemmas.Bool.{ltb-true, ltb-false, leb-true, leb-false}
+
+module _ (a b : ℕ) where
+  pub lt_ltb : is_lt (nat_cmp a b) ≡ ltb a b
+  lt_ltb = search rules
+
+  pub gt_ltb : is_gt (nat_cmp a b) ≡ ltb b a
+  gt_ltb = search rules
+
+  pub le_leb : is_le (nat_cmp a b) ≡ leb a b
+  le_leb = search rules
+
+  pub ge_leb : is_ge (nat_cmp a b) ≡ leb b a
+  ge_leb = search rules
+
+  -- as rules for `omega` and `grind`
+  pub lt_true : is_lt (nat_cmp a b) ≡ true → a < b
+  lt_true t = ltb-true a b (sym lt_ltb ∙ t)
+
+  pub lt_false : is_lt (nat_cmp a b) ≡ false → b ≤ a
+  lt_false t = ltb-false a b (sym lt_ltb ∙ t)
+
+  pub gt_true : is_gt (nat_cmp a b) ≡ true → b < a
+  gt_true t = ltb-true b a (sym gt_ltb ∙ t)
+
+  pub gt_false : is_gt (nat_cmp a b) ≡ false → a ≤ b
+  gt_false t = ltb-false b a (sym gt_ltb ∙ t)
+
+  pub le_true : is_le (nat_cmp a b) ≡ true → a ≤ b
+  le_true t = leb-true a b (sym le_leb ∙ t)
+
+  pub le_false : is_le (nat_cmp a b) ≡ false → b < a
+  le_false t = leb-false a b (sym le_leb ∙ t)
+
+  pub ge_true : is_ge (nat_cmp a b) ≡ true → b ≤ a
+  ge_true t = leb-true b a (sym ge_leb ∙ t)
+
+  pub ge_false : is_ge (nat_cmp a b) ≡ false → a < b
+  ge_false t = leb-false b a (sym ge_leb ∙ t)
