@@ -3,7 +3,7 @@
 -- Assumes nothing.
 use mathlib.Core.Path.{◌≡◌, refl, ap, sym, ◌∙◌}
 use mathlib.Core.Bool.{Bool, true, false, cond}
-use mathlib.Core.List.{List, [], ◌∷◌, ◌++◌, append_assoc}
+use mathlib.Core.List.{List, [], ◌∷◌, ◌++◌, append_assoc, append-nil}
 use Prim.Native.Nat.{ℕ, zero, suc, ◌+◌, ◌*◌, ◌/◌, ◌%◌, ◌≤◌, ◌<◌}
 use native.Mathlib.Omega.{arith}
 use lib.Arith.{mod-mul}
@@ -30,6 +30,9 @@ written_next o xs i h =
 pub written_none : (o : Output) → written o [] ≡ o
 unfolding written
 written_none o = refl
+
+pub written_end : (o : Output) (xs : List ℕ) → written o (xs ++ []) ≡ written o xs
+written_end o xs = ap (written o) (append-nil xs)
 
 -- what is written behind what stands there already
 pub then : (o p : Output) (xs ys : List ℕ) {r : Output} → p ≡ written o xs → r ≡ written p ys → r ≡ written o (xs ++ ys)
