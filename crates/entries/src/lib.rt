@@ -8,7 +8,7 @@ ghost use Rattle.entries.specs.Entries.{field, amount_field, refusal_text, sheet
 ghost use Rattle.entries.specs.Tables.{commitment_line, hour_commitments, commitment_lines, settled_line, settled_units, settled_hour, settled_hours, tables, total_line};
 
 use energy::HubKwh;
-use ledger::{Answer, Refusal, TotalAnswer, Verdict};
+use ledger::{Effect, Refusal};
 use lines::TextRefusal;
 use state::Book;
 
@@ -32,14 +32,14 @@ fn put_amount(out: &mut [u8], at: usize, z: i64) -> usize
 fn put_refusal(out: &mut [u8], at: usize, refusal: Refusal) -> usize
     ensures { output out.new result ≡ written (output out.old at) (refusal_text refusal) }
 {
-    let number = decisions::refusal_number(refusal);
+    let number = refusal.number();
     let a = decimal::put_bytes(out, at, b"refused=");
     let b = decimal::put_number(out, a, number);
     if 4 < number {
         return b;
     }
     let c = decimal::put_bytes(out, b, b" line=");
-    decimal::put_number(out, c, decisions::refusal_line(refusal))
+    decimal::put_number(out, c, refusal.line())
 }
 
 // The line of a sheet that is refused.
@@ -51,34 +51,39 @@ pub fn put_sheet_refused(out: &mut [u8], at: usize, refusal: TextRefusal) -> usi
     decimal::put_byte(out, b, b'\n')
 }
 
-fn put_answer(out: &mut [u8], at: usize, answer: Answer) -> usize
+fn put_answer(out: &mut [u8], at: usize, answer: Result<Effect, Refusal>) -> usize
     ensures { output out.new result ≡ written (output out.old at) (answer_text answer) }
 {
     match answer {
-        Answer::Accepted => decimal::put_bytes(out, at, b"accepted"),
-        Answer::Posted(n) => {
+        Ok(Effect::Committed) => decimal::put_bytes(out, at, b"accepted"),
+        Ok(Effect::Posted(n)) => {
             let a = decimal::put_bytes(out, at, b"accepted=");
             decimal::put_number(out, a, n)
         }
-        Answer::Refused(refusal) => put_refusal(out, at, refusal),
+        Err(refusal) => put_refusal(out, at, refusal),
     }
 }
 
-fn put_total(out: &mut [u8], at: usize, t: TotalAnswer) -> usize
-    ensures { output out.new result ≡ written (output out.old at) (total_text t.verdict t.sum) }
+fn put_total(out: &mut [u8], at: usize, t: Result<i64, Refusal>) -> usize
+    ensures { output out.new result ≡ written (output out.old at) (total_text t) }
 {
-    let verdict = t.verdict;
-    match verdict {
-        Verdict::Accepted => {
+    match t {
+        Ok(sum) => {
             let a = decimal::put_bytes(out, at, b"sum=");
-            decimal::put_signed(out, a, t.sum)
+            decimal::put_signed(out, a, sum)
         }
-        Verdict::Refused(refusal) => put_refusal(out, at, refusal),
+        Err(refusal) => put_refusal(out, at, refusal),
     }
 }
 
 // What a line of a kind answers; kind 7 is a total.
-fn put_result(out: &mut [u8], at: usize, kind: u64, answer: Answer, t: TotalAnswer) -> usize
+fn put_result(
+    out: &mut [u8],
+    at: usize,
+    kind: u64,
+    answer: Result<Effect, Refusal>,
+    t: Result<i64, Refusal>,
+) -> usize
     ensures { output out.new result ≡ written (output out.old at) (result_text kind answer t) }
 {
     if kind == 7 {
@@ -105,8 +110,8 @@ pub fn put_entry(
     text: &[u8],
     from: usize,
     kind: u64,
-    answer: Answer,
-    t: TotalAnswer,
+    answer: Result<Effect, Refusal>,
+    t: Result<i64, Refusal>,
 ) -> usize
     ensures { output out.new result ≡ written (output out.old at) (entry_line text.now from kind answer t) }
 {
@@ -227,18 +232,17 @@ pub fn put_tables(out: &mut [u8], at: usize, units: u64, book: Book) -> usize
 }
 
 // A line of the table of totals, where the unit is in the plant.
-pub fn put_listed(out: &mut [u8], at: usize, unit: u64, item: u64, t: TotalAnswer) -> usize
-    ensures { output out.new result ≡ written (output out.old at) (total_line unit item t.verdict t.sum) }
+pub fn put_listed(out: &mut [u8], at: usize, unit: u64, item: u64, t: Result<i64, Refusal>) -> usize
+    ensures { output out.new result ≡ written (output out.old at) (total_line unit item t) }
 {
-    let verdict = t.verdict;
-    match verdict {
-        Verdict::Accepted => {
+    match t {
+        Ok(sum) => {
             let a = decimal::put_bytes(out, at, b"total");
             let b = put_field(out, a, unit);
             let c = put_field(out, b, item);
-            let d = put_amount(out, c, t.sum);
+            let d = put_amount(out, c, sum);
             decimal::put_byte(out, d, b'\n')
         }
-        Verdict::Refused(_) => at,
+        Err(_) => at,
     }
 }

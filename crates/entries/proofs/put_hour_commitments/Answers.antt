@@ -1,14 +1,14 @@
 -- After k turns the lines of the first k are written.
 -- Assumes nothing.
-use Prim.Native.Nat.{ℕ, ◌-◌}
-use Prim.Native.Nat.{ℕ, ◌-◌}
+use Prim.Native.Nat.{ℕ}
+use Prim.Native.Nat.{ℕ}
 use Rattle.listing.proofs.Joined.{none_joined, next_joined}
 use Rattle.listing.specs.Listing.{joined}
 use Rattle.state.specs.Sizes.{places}
 use Rattle.entries.specs.Tables.{commitment_line, hour_commitments}
 use Rattle.decimal.specs.Output.{output, written}
 use native.Mathlib.Omega.{arith}
-use Prim.Native.Nat.{ℕ, ◌-◌}
+use Prim.Native.Nat.{ℕ}
 use mathlib.Core.Path.{◌≡◌, ap, ◌∙◌}
 use Rattle.entries.proofs.put_hour_commitments.Goals as goal
 

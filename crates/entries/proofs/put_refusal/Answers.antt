@@ -20,10 +20,10 @@ returns-then-number-gt4 c =
     let o = output g.out.now g.at in
     let o1 = output c.put_bytes-a.new.out c.put_bytes-a.result in
     let o2 = output c.put_number-b.new.out c.put_number-b.result in
-    let h : 4 < refusal_number g.refusal = omega (arith, c.if-number-gt4.true, c.refusal_number-number.ensures) in
+    let h : 4 < refusal_number g.refusal = omega (arith, c.if-number-gt4.true, c.number-number.ensures) in
     simp (lt-ltb _ _ h) (then o o2 (bytes "refused=" ++ digits (refusal_number g.refusal)) []
     (then o o1 (bytes "refused=") (digits (refusal_number g.refusal)) c.put_bytes-a.ensures
-    (c.put_number-b.ensures ∙ ap (λ (n : ℕ). written o1 (digits n)) c.refusal_number-number.ensures))
+    (c.put_number-b.ensures ∙ ap (λ (n : ℕ). written o1 (digits n)) c.number-number.ensures))
     (sym (written_none o2)))
 
 pub returns : goal.returns
@@ -34,8 +34,8 @@ returns c =
     let o1 = output c.put_bytes-a.new.out c.put_bytes-a.result in
     let o2 = output c.put_number-b.new.out c.put_number-b.result in
     let o3 = output c.put_bytes-c.new.out c.put_bytes-c.result in
-    let h : refusal_number g.refusal ≤ 4 = omega (arith, c.if-number-gt4.false, c.refusal_number-number.ensures) in
+    let h : refusal_number g.refusal ≤ 4 = omega (arith, c.if-number-gt4.false, c.number-number.ensures) in
     simp (le-ltb _ _ h) (then o o2 (bytes "refused=" ++ digits (refusal_number g.refusal)) (bytes " line=" ++ digits (refusal_line g.refusal))
     (then o o1 (bytes "refused=") (digits (refusal_number g.refusal)) c.put_bytes-a.ensures
-    (c.put_number-b.ensures ∙ ap (λ (n : ℕ). written o1 (digits n)) c.refusal_number-number.ensures))
-    (then o2 o3 (bytes " line=") (digits (refusal_line g.refusal)) c.put_bytes-c.ensures (c.put_number.ensures ∙ ap (λ (n : ℕ). written o3 (digits n)) c.refusal_line.ensures)))
+    (c.put_number-b.ensures ∙ ap (λ (n : ℕ). written o1 (digits n)) c.number-number.ensures))
+    (then o2 o3 (bytes " line=") (digits (refusal_line g.refusal)) c.put_bytes-c.ensures (c.put_number.ensures ∙ ap (λ (n : ℕ). written o3 (digits n)) c.line.ensures)))

@@ -1,13 +1,13 @@
 -- After h turns the lines of the first h are written.
 -- Assumes nothing.
-use Prim.Native.Nat.{ℕ, ◌-◌}
+use Prim.Native.Nat.{ℕ}
 use Rattle.listing.proofs.Joined.{none_joined, next_joined}
 use Rattle.listing.specs.Listing.{joined}
 use Rattle.state.specs.Sizes.{hours}
 use Rattle.entries.specs.Tables.{settled_hour, settled_hours}
 use Rattle.decimal.specs.Output.{output, written}
 use native.Mathlib.Omega.{arith}
-use Prim.Native.Nat.{ℕ, ◌-◌}
+use Prim.Native.Nat.{ℕ}
 use mathlib.Core.Path.{◌≡◌, ap, ◌∙◌}
 use Rattle.entries.proofs.put_settled_hours.Goals as goal
 
