@@ -5,7 +5,7 @@ ghost use Rattle.std.specs.Prelude.{◌≡◌, ◌≤◌, ◌<◌, min};
 ghost use Rattle.formulas.specs.Items.{kinds};
 ghost use Rattle.charge.specs.Test.{Bounded, kind_weight, counted_at, counted_part, counted_deviation, is_charged, weighted as the_weighted, base_charge, growth as the_growth, hours_counted, charge_of, NearExact};
 
-use energy::{HubGrains, NetKwh};
+use energy::{Energy, HubGrains, NetKwh};
 use formulas::{Deviations, KINDS};
 
 // How a kind is charged: the tenths of its deviation that W takes, 0 where it is not charged, and whether `repair` exempts it.

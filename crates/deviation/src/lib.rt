@@ -7,7 +7,7 @@ ghost use Rattle.record.specs.InRange.{SpanInRange, UnitInRange};
 ghost use Rattle.deviation.specs.Deviation.{short_minutes, proportions as the_proportions, deviations_by, deviations_of};
 ghost use Rattle.deviation.specs.Proportions.{no_proportion, unit_proportioned};
 
-use energy::NetKwh;
+use energy::{Energy, NetKwh};
 use formulas::{Deviations, KINDS};
 use record::{Span, UnitRecord};
 

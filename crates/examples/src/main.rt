@@ -10,7 +10,7 @@ ghost use Rattle.record.specs.InRange.{SpanInRange};
 ghost use Rattle.charge.specs.Test.{Bounded, weighted};
 
 use allocation::Plant;
-use energy::{GrossKwh, HubGrains, HubKwh, NetKwh};
+use energy::{Energy, GrossKwh, HubGrains, HubKwh, NetKwh};
 use formulas::Deviations;
 use offer::Offer;
 use record::{Span, UnitRecord};

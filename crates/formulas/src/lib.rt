@@ -4,7 +4,7 @@
 ghost use Rattle.std.specs.Prelude.{◌≡◌, ◌+◌, ◌^◌, ◌≤◌, ◌<◌};
 ghost use Rattle.formulas.specs.Items.{first_kind, kinds, deviation_of, in_order, in_season, declaration_ceiling, energy_pay, availability, refund_kwh, refund as the_refund, drawn_pay, paid as the_paid, owed as the_owed};
 
-use energy::{GrossKwh, NetKwh};
+use energy::{Energy, GrossKwh, NetKwh};
 
 // The number of kinds that a deviation is split into: 2 to 8.
 pub const KINDS: usize = 7;

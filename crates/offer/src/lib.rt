@@ -6,7 +6,7 @@ ghost use Rattle.finite.specs.Finite.{every};
 ghost use Rattle.offer.specs.Offer.{no_offer, steps_allowed, in_range, in_order, step_in_range, step_in_order, offer_holds, last_quantity};
 ghost use Rattle.offer.specs.Modified.{IsBlock, cost_between};
 
-use energy::{HubGrains, HubKwh};
+use energy::{Energy, HubGrains, HubKwh};
 
 // Up to ten steps: a cumulative quantity and a price in Rial/MWh. Past the number of steps nothing is looked at.
 #[derive(Clone, Copy)]

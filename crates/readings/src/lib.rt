@@ -6,7 +6,7 @@ ghost use Rattle.units.specs.Units.{member_at};
 ghost use Rattle.record.specs.InRange.{InRange};
 ghost use Rattle.readings.specs.Readings.{readings_total, all_measured, readings_hold};
 
-use energy::NetKwh;
+use energy::{Energy, NetKwh};
 use record::{Record, UnitRecord};
 
 // The reading of the unit at place k, 0 outside the plant.
