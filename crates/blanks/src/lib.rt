@@ -3,7 +3,7 @@
 
 ghost use Rattle.std.specs.Prelude.{◌≡◌, ◌≤◌, ◌<◌};
 ghost use Rattle.lines.specs.Cells.{line_in};
-ghost use Rattle.blanks.specs.Blanks.{value_or, span_by, spans_by, unit_by, place_by};
+ghost use Rattle.blanks.specs.Blanks.{value_or, reading_by, span_by, spans_by, unit_by, place_by};
 
 use energy::{GrossKwh, NetKwh};
 use record::{Span, UnitRecord};
@@ -19,6 +19,13 @@ pub fn value_or(line: &Line, blank: u64) -> u64
     } else {
         line.number[0]
     }
+}
+
+// The reading of a line, none where the line is blank: then the unit is not measured.
+fn reading_by(line: &Line) -> Option<NetKwh>
+    ensures { result ≡ reading_by line.now }
+{
+    if line.count == 0 { None } else { Some(NetKwh(line.number[0])) }
 }
 
 // The span of place i in a line, of a unit with that declared capability.
@@ -66,8 +73,7 @@ fn unit_by(kept: &[Line; 84], j: usize, monthly: GrossKwh) -> UnitRecord
         test: NetKwh(value_or(&kept[at + 2], 0)),
         deviation: NetKwh(value_or(&kept[at + 3], 0)),
         power: GrossKwh(value_or(&kept[at + 4], monthly.0)),
-        measured: 0 < kept[at + 5].count,
-        reading: NetKwh(value_or(&kept[at + 5], 0)),
+        reading: reading_by(&kept[at + 5]),
         since: value_or(&kept[at + 6], 1),
         repair: value_or(&kept[at + 7], 0),
         spans: spans_by(&kept[at + 8]),

@@ -7,7 +7,7 @@ ghost use Rattle.numbers.specs.Offers.{offer_size};
 ghost use Rattle.commitments.specs.Changed.{changed_in};
 
 use decisions::CommitmentChange;
-use energy::HubKwh;
+use energy::{Energy, HubKwh};
 use ledger::{Answer, Verdict};
 
 // A take, release or move: it is tested, and where it is accepted what is given goes off one commitment and what comes is added to the other.

@@ -12,7 +12,7 @@ ghost use Rattle.decisions.specs.Calls.{commitment_call, record_call, decoded, c
 ghost use Rattle.decisions.specs.Changes.{hour_index, entry_index, take_change, release_change, move_change, change_of, change_tests};
 ghost use Rattle.decisions.specs.Hours.{hour_refused, hour_changed, void_decided, standing_row, record_decided};
 
-use energy::HubKwh;
+use energy::{Energy, HubKwh};
 use ledger::{Answer, Asked, Refusal, Verdict};
 use lines::ReadAnswer;
 use record::Record;

@@ -62,18 +62,17 @@ fn refund_item(rates: Rates, declared: NetKwh, real: NetKwh, d: Deviations, allo
 // Item 4, by the unit's own meter, `repair`, `since`, the deviation by kinds and the unit's energy.
 fn test_item(
     rates: Rates,
-    measured: bool,
-    reading: NetKwh,
+    reading: Option<NetKwh>,
     repair: u64,
     since: u64,
     d: Deviations,
     energy: HubGrains,
 ) -> i64
     requires { RatesReady rates × SplitReady d }
-    ensures { result ≡ test_item rates measured reading repair since d energy }
+    ensures { result ≡ test_item rates reading repair since d energy }
 {
     let q = charge::counted_deviation(d, repair);
-    if charge::is_charged(q, measured, reading, energy, rates.loss) {
+    if charge::is_charged(q, reading, energy, rates.loss) {
         let w = charge::weighted(d, repair);
         return formulas::owed(charge::charge_of(w, since, rates.cpf, rates.bar));
     }
@@ -100,7 +99,7 @@ fn unit_amounts(
     let paid = energy_item(offer, commitment, energy);
     let available = availability_item(rates, declared, commitment);
     let refunded = refund_item(rates, declared, u.real, d, allowed);
-    let tested = test_item(rates, u.measured, u.reading, u.repair, u.since, d, energy);
+    let tested = test_item(rates, u.reading, u.repair, u.since, d, energy);
     let owed = formulas::owed(drawn);
     Amounts {
         item: [paid, available, refunded, tested, owed],

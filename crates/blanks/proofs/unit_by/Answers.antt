@@ -18,15 +18,14 @@ returns c =
     let f = line_in g.kept.now in
     let span : c.from_fn.result ≡ tabulate 6 (span_by (f (block_line g.j + 8)) (record { 0 = c.value_or.result })) =
     tabulate_from_fn (span_by (f (block_line g.j + 8)) (record { 0 = c.value_or.result })) _ _ c.from_fn.ensures.items (λ i y q l k. search rules) in
-    unit_made f g.j g.monthly _ _ _ _ _ _ _ _ _ _ _
+    unit_made f g.j g.monthly _ _ _ _ _ _ _ _ _ _
     (c.value_or.ensures ∙ ap (λ (k : ℕ). value_or g.monthly.0 (f k)) (sym (add-zero (block_line g.j))))
     c.value_or-2.ensures
     c.value_or-3.ensures
     c.value_or-4.ensures
     c.value_or-5.ensures
-    (search rules)
+    c.reading_by.ensures
     c.value_or-6.ensures
     c.value_or-7.ensures
-    c.value_or-8.ensures
     c.spans_by.ensures
     span

@@ -23,10 +23,10 @@ charge c =
 
 tested : (c : After-is_charged) →
     let a = c.args in
-    is_charged (counted_deviation a.d a.repair) a.measured a.reading a.energy a.rates.loss ≡ c.is_charged.result
+    is_charged (counted_deviation a.d a.repair) a.reading a.energy a.rates.loss ≡ c.is_charged.result
 tested c =
     let a = c.args in
-    sym (c.is_charged.ensures ∙ ap (λ (q : NetKwh). is_charged q a.measured a.reading a.energy a.rates.loss) c.counted_deviation-q.ensures)
+    sym (c.is_charged.ensures ∙ ap (λ (q : NetKwh). is_charged q a.reading a.energy a.rates.loss) c.counted_deviation-q.ensures)
 
 pub counted_deviation-q-requires : goal.counted_deviation-q-requires
 counted_deviation-q-requires c = λ i l. omega (arith, deviation_most c.args.d 1000000 c.requires.1 i l)

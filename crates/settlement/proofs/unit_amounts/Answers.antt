@@ -67,6 +67,6 @@ returns c =
     let tested =
     back _ c.test_item-tested.type_inv
     ∙ (c.test_item-tested.ensures
-    ∙ ap (λ (d : Deviations). test_item a.rates a.u.measured a.u.reading a.u.repair a.u.since d a.energy) d) in
+    ∙ ap (λ (d : Deviations). test_item a.rates a.u.reading a.u.repair a.u.since d a.energy) d) in
     let owed = back _ c.owed-owed.type_inv ∙ c.owed-owed.ensures in
     λ i. record { item = paid i ∷ (available i ∷ (refunded i ∷ (tested i ∷ (owed i ∷ [])))) }
