@@ -13,7 +13,9 @@ use lib.Seq.{length-take-le}
 use Rattle.text.specs.Text.{seek, before, has, value_part, word_is, key_is}
 use Rattle.text.specs.Rows.{word}
 use Rattle.values.specs.Values.{value_of}
+use Rattle.std.specs.Prelude.{Result, Ok, Err}
 use Rattle.text.specs.declared.Line.{Line}
+use Rattle.text.specs.declared.TextFault.{TextFault}
 use Rattle.lines.specs.Lines.{place_after}
 use Rattle.record_end.specs.End.{behind, behind_record}
 use Rattle.record_end.proofs.Behind.{behind_line, behind_le}
@@ -76,10 +78,10 @@ module _ (text : List ℕ) (at : ℕ) (lf : has 10 (drop at text) ≡ true) wher
 abbrev Goes : List ℕ → (at : ℕ) → Step → Type 0
 Goes text at s = s.more ≡ true → (at + line_bytes ≤ s.after) × (s.after ≤ length text)
 
-take_goes : (text : List ℕ) (at after : ℕ) (good : Bool) (hour unit kwh code : ℕ) → at + line_bytes ≤ after → after ≤ length text
-    → Goes text at (step_by text at (cond good (Take (take_asked hour unit kwh) after) (Bad code)))
-take_goes text at after true hour unit kwh code on within m = (on, within)
-take_goes text at after false hour unit kwh code on within m = absurd (true≢false (sym m))
+take_goes : (text : List ℕ) (at after : ℕ) (r : Result Line TextFault) → at + line_bytes ≤ after → after ≤ length text
+    → Goes text at (step_by text at (take_of r after))
+take_goes text at after (Ok l) on within m = (on, within)
+take_goes text at after (Err f) on within m = absurd (true≢false (sym m))
 
 pub step_goes : (text : List ℕ) (at : ℕ) → Goes text at (step_at text at)
 unfolding next_at
@@ -88,7 +90,7 @@ step_goes text at = by (ltb at (length text)) refl (has 10 (drop at text)) refl 
     line : List ℕ
     line = before 10 (drop at text)
 
-    read : Line
+    read : Result Line TextFault
     read = value_of take_row (value_part line)
 
     by : (t : Bool) → ltb at (length text) ≡ t → (lf : Bool) → has 10 (drop at text) ≡ lf → (taken : Bool) → key_is line (word "take") ≡ taken
@@ -97,7 +99,7 @@ step_goes text at = by (ltb at (length text)) refl (has 10 (drop at text)) refl 
     by false e lf f taken g hour h m = absurd (true≢false (sym m))
     by true e false f taken g hour h m = absurd (true≢false (sym m))
     by true e true f true g hour h m =
-        take_goes text at (place_after text at) (eqb read.code 0) _ _ _ _ (line_size text at f (word "take") take_four g) (line_inside text at f) m
+        take_goes text at (place_after text at) read (line_size text at f (word "take") take_four g) (line_inside text at f) m
     by true e true f false g true h m =
         let size = line_size text at f (word "hour") hour_four h in
         let behind = record_size text at f in

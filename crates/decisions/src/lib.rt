@@ -503,7 +503,7 @@ pub fn refusal_number(refusal: Refusal) -> u64
     ensures { result ≡ refusal_number refusal }
 {
     match refusal {
-        Refusal::Text(t) => lines::text_number(t),
+        Refusal::Text(t) => t.number(),
         Refusal::SheetRange => 9,
         Refusal::HourRange => 10,
         Refusal::UnitUnknown => 11,
@@ -527,7 +527,7 @@ pub fn refusal_line(refusal: Refusal) -> u64
     ensures { result ≡ refusal_line refusal }
 {
     if let Refusal::Text(t) = refusal {
-        return lines::text_line(t);
+        return t.line;
     }
     0
 }

@@ -27,7 +27,7 @@ no_line_lem HourOpen k = refl
 no_line_lem NoPlaces k = refl
 
 pub returns-in-Text : goal.returns-in-Text
-returns-in-Text c = c.text_line.ensures ∙ sym (ap refusal_line c.in-Text.is)
+returns-in-Text c = sym (ap refusal_line c.in-Text.is)
 
 pub returns : goal.returns
 returns c = no_line_lem c.args.refusal c.in_default.not-Text

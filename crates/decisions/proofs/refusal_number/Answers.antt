@@ -5,4 +5,4 @@ use Rattle.ledger.specs.Numbers.{refusal_number}
 use Rattle.decisions.proofs.refusal_number.Goals as goal
 
 pub returns-in-Text : goal.returns-in-Text
-returns-in-Text c = c.text_number.ensures ∙ sym (ap refusal_number c.in-Text.is)
+returns-in-Text c = c.number.ensures ∙ sym (ap refusal_number c.in-Text.is)
