@@ -12,7 +12,7 @@ ghost use Rattle.account.specs.Day.{take_row, take_of, settle_of, next_at, none_
 ghost use Rattle.account.specs.Statement.{day_lines, statement_of};
 
 use decimal::Writer;
-use ledger::{Answer, Asked};
+use ledger::{Asked, Effect, Refusal};
 use lines::ReadAnswer;
 use sheet::Sheet;
 use state::Book;
@@ -177,13 +177,19 @@ fn due_at(text: &[u8], at: usize, left: usize) -> Due
 }
 
 // What is due after a call, by its answer.
-fn due_after(text: &[u8], after: usize, left: usize, place: u64, answer: Answer) -> Due
+fn due_after(
+    text: &[u8],
+    after: usize,
+    left: usize,
+    place: u64,
+    answer: Result<Effect, Refusal>,
+) -> Due
     ensures { result ≡ answered_by text.now after left place answer }
 {
     match answer {
-        Answer::Accepted => due_at(text, after, left),
-        Answer::Posted(_) => due_at(text, place as usize, left),
-        Answer::Refused(refusal) => none_due(decisions::refusal_number(refusal)),
+        Ok(Effect::Committed) => due_at(text, after, left),
+        Ok(Effect::Posted(_)) => due_at(text, place as usize, left),
+        Err(refusal) => none_due(refusal.number()),
     }
 }
 

@@ -9,7 +9,7 @@ use Rattle.state.specs.declared.Book.{Book}
 use Rattle.postings.specs.declared.Posting.{Posting}
 use Rattle.postings.specs.declared.Scanned.{Scanned}
 use Rattle.ledger.specs.declared.Outcome.{Outcome}
-use Rattle.ledger.specs.declared.TotalAnswer.{TotalAnswer}
+use Rattle.ledger.specs.Answers.{TotalAnswer}
 use Rattle.ledger.specs.Total.{total_decided, total_on}
 use Rattle.single.specs.declared.CallDecision.{CallDecision}
 use Rattle.single.specs.Journal.{scanned_in, posted, Performed}

@@ -15,7 +15,7 @@ ghost use Rattle.series.specs.Stands.{start_on, Due};
 ghost use Rattle.journal.specs.Leaves.{Leaves};
 
 use batch::Ran;
-use ledger::{Asked, Outcome, TotalAnswer};
+use ledger::{Asked, Outcome, Refusal};
 use postings::{Posting, Scanned};
 use series::Stand;
 use sheet::Sheet;
@@ -166,7 +166,7 @@ pub fn total(
     book: Book,
     unit: u64,
     item: u64,
-) -> TotalAnswer
+) -> Result<i64, Refusal>
     ensures { (result ≡ total_on sheet (record { book = book; count = count; journal = list.old }) unit item) × (list.new ≡ list.old) }
 {
     let places = list.len();

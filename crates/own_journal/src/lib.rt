@@ -8,7 +8,7 @@ ghost use Rattle.series.specs.Stands.{start_on};
 ghost use Rattle.own_journal.specs.Own.{own_list};
 
 use batch::Ran;
-use ledger::TotalAnswer;
+use ledger::Refusal;
 use postings::Posting;
 use sheet::Sheet;
 use state::Book;
@@ -59,7 +59,7 @@ pub fn total(
     book: Book,
     unit: u64,
     item: u64,
-) -> TotalAnswer
+) -> Result<i64, Refusal>
     ensures { result ≡ total_on sheet (record { book = book; count = count; journal = list }) unit item }
 {
     journal::total(&mut list, count, sheet, book, unit, item)

@@ -8,19 +8,19 @@ use Rattle.single.proofs.total_of.Goals as goal
 
 pub returns-then-not-sheet_holds : goal.returns-then-not-sheet_holds
 unfolding total_decided total_by
-returns-then-not-sheet_holds c = c.no_total.ensures ∙ simp
+returns-then-not-sheet_holds c = simp
     (sym c.sheet_holds.ensures ∙ not-true _ c.if-not-sheet_holds.true-raw)
 
 pub returns-then-not-book_fits : goal.returns-then-not-book_fits
 unfolding total_decided total_by
-returns-then-not-book_fits c = c.no_total-then-not-book_fits.ensures ∙ simp (
+returns-then-not-book_fits c = simp (
   sym c.sheet_holds.ensures ∙ not-false _ c.if-not-sheet_holds.false-raw,
   sym c.book_fits.ensures ∙ not-true _ c.if-not-book_fits.true-raw,
 )
 
 pub returns-then-not-has_unit : goal.returns-then-not-has_unit
 unfolding total_decided total_by
-returns-then-not-has_unit c = c.no_total-then-not-has_unit.ensures ∙ simp (
+returns-then-not-has_unit c = simp (
   sym c.sheet_holds.ensures ∙ not-false _ c.if-not-sheet_holds.false-raw,
   sym c.book_fits.ensures ∙ not-false _ c.if-not-book_fits.false-raw,
   sym c.has_unit.ensures ∙ not-true _ c.if-not-has_unit.true-raw,
@@ -28,7 +28,7 @@ returns-then-not-has_unit c = c.no_total-then-not-has_unit.ensures ∙ simp (
 
 pub returns-then-not-item_known : goal.returns-then-not-item_known
 unfolding total_decided total_by
-returns-then-not-item_known c = c.no_total-then-not-item_known.ensures ∙ simp (
+returns-then-not-item_known c = simp (
   sym c.sheet_holds.ensures ∙ not-false _ c.if-not-sheet_holds.false-raw,
   sym c.book_fits.ensures ∙ not-false _ c.if-not-book_fits.false-raw,
   sym c.has_unit.ensures ∙ not-false _ c.if-not-has_unit.false-raw,
