@@ -1,5 +1,5 @@
 -- The day's text behind its sheet, each call carried out as it comes (01, Program and marked figures).
-use Rattle.std.specs.Prelude.{ℕ, zero, suc, ◌-◌, cond, List, [], ◌∷◌, eqb, ltb, length, drop, get_or, replicate}
+use Rattle.std.specs.Prelude.{ℕ, zero, suc, ◌-◌, cond, List, [], ◌∷◌, eqb, ltb, length, drop, get_or, replicate, Ok, Err}
 use Rattle.text.specs.Text.{before, has, value_part, key_is}
 use Rattle.text.specs.Rows.{word, limits}
 use Rattle.values.specs.Values.{value_of}
@@ -12,8 +12,8 @@ use Rattle.state.specs.Book.{empty_book}
 use Rattle.postings.specs.declared.Posting.{Posting}
 use Rattle.postings.specs.Journal.{no_posting}
 use Rattle.ledger.specs.declared.Asked.{Asked}
-use Rattle.ledger.specs.declared.Answer.{Answer}
-use Rattle.ledger.specs.declared.Answer.TheVariants.{Accepted, Posted, Refused}
+use Rattle.ledger.specs.Answers.{Answer}
+use Rattle.ledger.specs.declared.Effect.TheVariants.{Committed, Posted}
 use Rattle.ledger.specs.declared.Outcome.{Outcome}
 use Rattle.ledger.specs.Numbers.{refusal_number}
 use Rattle.ledger.specs.Ledger.{Call}
@@ -92,9 +92,9 @@ day_at text at left count b = day_with count b (due_at text at left)
 
 -- after a call: a take is followed by the next line, a record by the place that the call answers; "the first refusal" ends the day
 abbrev pub answered_by : List ℕ → (after left place : ℕ) → Answer → Due
-answered_by text after left place Accepted = due_at text after left
-answered_by text after left place (Posted n) = due_at text place left
-answered_by text after left place (Refused r) = none_due (refusal_number r)
+answered_by text after left place (Ok Committed) = due_at text after left
+answered_by text after left place (Ok (Posted n)) = due_at text place left
+answered_by text after left place (Err r) = none_due (refusal_number r)
 
 unfoldable pub day_after : List ℕ → Day → Outcome → Day
 day_after text d o = day_with o.count o.book (answered_by text d.after d.left o.place o.answer)

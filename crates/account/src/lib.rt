@@ -2,15 +2,17 @@
 // come, over a journal of 2,000 places.
 #![tactic(auto)]
 
-ghost use Rattle.std.specs.Prelude.{◌≡◌, true, ◌-◌, ◌≤◌};
+ghost use Rattle.std.specs.Prelude.{◌≡◌, true, ◌+◌, ◌-◌, ◌≤◌};
 ghost use Rattle.sheet.specs.Ranges.{sheet_holds};
 ghost use Rattle.ledger.specs.Requests.{none_asked};
-ghost use Rattle.decimal.specs.Output.{output, written, filled};
+ghost use Rattle.decimal.specs.Output.{output, filled};
+ghost use Rattle.decimal.specs.Writer.{Wrote};
 ghost use Rattle.listing.specs.Listing.{most_bytes};
 ghost use Rattle.account.specs.Day.{take_row, take_of, settle_of, next_at, none_due, due_at, answered_by, day_with, day_from};
 ghost use Rattle.account.specs.Statement.{day_lines, statement_of};
 
-use ledger::{Answer, Asked};
+use decimal::Writer;
+use ledger::{Asked, Effect, Refusal};
 use lines::ReadAnswer;
 use sheet::Sheet;
 use state::Book;
@@ -177,13 +179,19 @@ fn due_at(text: &[u8], at: usize, left: usize) -> Due
 }
 
 // What is due after a call, by its answer.
-fn due_after(text: &[u8], after: usize, left: usize, place: u64, answer: Answer) -> Due
+fn due_after(
+    text: &[u8],
+    after: usize,
+    left: usize,
+    place: u64,
+    answer: Result<Effect, Refusal>,
+) -> Due
     ensures { result ≡ answered_by text.now after left place answer }
 {
     match answer {
-        Answer::Accepted => due_at(text, after, left),
-        Answer::Posted(_) => due_at(text, place as usize, left),
-        Answer::Refused(refusal) => none_due(decisions::refusal_number(refusal)),
+        Ok(Effect::Committed) => due_at(text, after, left),
+        Ok(Effect::Posted(_)) => due_at(text, place as usize, left),
+        Err(refusal) => none_due(refusal.number()),
     }
 }
 
@@ -245,32 +253,48 @@ fn day_of(sheet: Sheet, text: &[u8], at: usize) -> Day
 }
 
 // What is printed of a day.
-fn put_day(out: &mut [u8], units: u64, day: Day) -> usize
-    ensures result_after { output out.new result ≡ written (output out.old 0) (day_lines units day) }
-    ensures upper_bound { result ≤ most_bytes }
+#[tactic(auto, unfolding(crate::specs::Statement::day_lines))]
+fn put_day(out: &mut Writer, units: u64, day: &Day)
+    ensures result_after { Wrote out.old out.new (day_lines units day.now) }
+    ensures upper_bound { out.new.place ≤ out.old.place + most_bytes }
 {
-    let book = day.book;
     if day.refusal == 0 {
-        return listing::put_settled(out, 0, units, book);
+        listing::put_settled(out, units, &day.book);
+    } else {
+        listing::put_refusal(out, day.refusal);
     }
-    listing::put_refusal(out, 0, day.refusal)
 }
 
-// The statement of a day's text, written from the start of the buffer on as far as it has room; gives how many bytes are written. A buffer
-// of 32,256 bytes has room for every statement.
-pub fn statement_of(text: &[u8], out: &mut [u8]) -> usize
-    ensures result_after { output out.new result ≡ filled out.old (statement_of text.now) }
-    ensures upper_bound { result ≤ most_bytes }
+// What is printed of a day's text.
+fn put_statement(out: &mut Writer, text: &[u8])
+    ensures result_after { Wrote out.old out.new (statement_of text.now) }
+    ensures upper_bound { out.new.place ≤ out.old.place + most_bytes }
 {
     let read = sheet_text::read_sheet(text, 0);
     let answer = read.answer;
     let sheet = read.sheet;
     match answer {
         ReadAnswer::Read(place) => {
-            put_day(out, sheet.units, day_of(sheet, text, place as usize))
+            let day = day_of(sheet, text, place as usize);
+            put_day(out, sheet.units, &day);
         }
         ReadAnswer::Refused(refusal) => {
-            listing::put_refusal(out, 0, lines::text_number(refusal))
+            listing::put_refusal(out, lines::text_number(refusal));
         }
     }
+}
+
+// The statement of a day's text, written from the start of the buffer on as far as it has room; gives how many bytes are written. A buffer
+// of 32,256 bytes has room for every statement.
+#[tactic(auto, using(decimal::proofs::Filled::written_filled))]
+pub fn statement_of(text: &[u8], out: &mut [u8]) -> usize
+    ensures result_after { output out.new result ≡ filled out.old (statement_of text.now) }
+    ensures upper_bound { result ≤ most_bytes }
+{
+    let mut writer = Writer {
+        buffer: out,
+        place: 0,
+    };
+    put_statement(&mut writer, text);
+    writer.place
 }

@@ -9,11 +9,10 @@ use Prim.Native.Nat.{ℕ, zero, suc, ◌-◌, ◌≤◌}
 use lib.ListN.{length}
 use Rattle.sheet.specs.declared.Sheet.{Sheet}
 use Rattle.sheet.specs.Ranges.{sheet_holds}
-use Rattle.ledger.specs.declared.Decision.{Decision}
 use Rattle.ledger.specs.declared.Refusal.{Refusal}
 use Rattle.ledger.specs.declared.Refusal.TheVariants.{SheetRange, BookRange}
 use Rattle.ledger.specs.Ledger.{Call}
-use Rattle.ledger.specs.Calls.{State, fits_in, carried_out, request_of, decided_on, request_decided, journal_after, outcome_of}
+use Rattle.ledger.specs.Calls.{State, fits_in, carried_out, request_of, decided_on, request_decided, journal_after, outcome_of, Decision}
 use Rattle.ledger.specs.Requests.{call_at}
 use Rattle.ledger.proofs.Places.{decided_fits, decided_rows, decided_on_lem}
 use Rattle.ledger.proofs.Keeps.{Kept, carried_keeps, carried_long}

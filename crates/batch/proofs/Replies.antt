@@ -1,5 +1,6 @@
 -- An answer in its four places: storing it keeps how many places there are, and its four numbers are those of its reply.
 -- Assumes nothing.
+use Rattle.std.specs.Prelude.{Ok, Err}
 use mathlib.Core.Path.{◌≡◌, refl, sym, ap, ◌∙◌}
 use mathlib.Core.Bool.{Bool, true, false, cond}
 use mathlib.Core.List.{List, [], ◌∷◌}
@@ -9,8 +10,8 @@ use Prim.Native.Nat.{ℕ, zero, suc, ◌+◌, ◌*◌, ◌/◌, ◌≤◌}
 use lib.Dec.{ltb}
 use lib.ListN.{length, set, length-set}
 use Rattle.sheet.specs.declared.Sheet.{Sheet}
-use Rattle.ledger.specs.declared.Answer.{Answer}
-use Rattle.ledger.specs.declared.Answer.TheVariants.{Accepted, Posted, Refused}
+use Rattle.ledger.specs.Answers.{Answer}
+use Rattle.ledger.specs.declared.Effect.TheVariants.{Committed, Posted}
 use Rattle.ledger.specs.Ledger.{Reply}
 use Rattle.ledger.specs.Numbers.{reply_of, number_of, line_of, posted_of}
 use Rattle.batch.specs.Run.{Running, replied, answered, turned, ran_all}
@@ -42,6 +43,6 @@ length_answers sheet calls text s zero = refl
 length_answers sheet calls text s (suc k) = length_replied (ran_all sheet calls text s k).answers k _ _ _ _ ∙ length_answers sheet calls text s k
 
 pub reply_is : (a : Answer) (place : ℕ) → ◌≡◌ {A = Reply} (record { number = number_of a; line = line_of a; posted = posted_of a; place = place }) (reply_of a place)
-reply_is Accepted place = refl
-reply_is (Posted n) place = refl
-reply_is (Refused r) place = refl
+reply_is (Ok Committed) place = refl
+reply_is (Ok (Posted n)) place = refl
+reply_is (Err r) place = refl

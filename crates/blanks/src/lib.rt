@@ -4,7 +4,7 @@
 ghost use Rattle.std.specs.Prelude.{◌≡◌, ◌^◌, ◌≤◌, ◌<◌};
 ghost use Rattle.finite.specs.Finite.{tabulate};
 ghost use Rattle.lines.specs.Cells.{line_in};
-ghost use Rattle.blanks.specs.Blanks.{value_or, span_by, spans_by, unit_by, place_by};
+ghost use Rattle.blanks.specs.Blanks.{value_or, reading_by, span_by, spans_by, unit_by, place_by};
 
 use energy::{GrossKwh, NetKwh};
 use record::{Span, UnitRecord};
@@ -18,6 +18,17 @@ pub fn value_or(cells: &[u64], k: usize, blank: u64) -> u64
         return blank;
     }
     lines::number_at(cells, k, 0)
+}
+
+// The reading of line k, none where the line is blank: then the unit is not measured.
+fn reading_by(cells: &[u64], k: usize) -> Option<NetKwh>
+    requires { k < 2 ^ 32 }
+    ensures { result ≡ reading_by (line_in cells.now k) }
+{
+    if lines::count_at(cells, k) == 0 {
+        return None;
+    }
+    Some(NetKwh(lines::number_at(cells, k, 0)))
 }
 
 // The span of place i in line k, of a unit with that declared capability.
@@ -83,8 +94,7 @@ fn unit_by(cells: &[u64], j: usize, monthly: GrossKwh) -> UnitRecord
         test: NetKwh(value_or(cells, at + 2, 0)),
         deviation: NetKwh(value_or(cells, at + 3, 0)),
         power: GrossKwh(value_or(cells, at + 4, monthly.0)),
-        measured: 0 < lines::count_at(cells, at + 5),
-        reading: NetKwh(value_or(cells, at + 5, 0)),
+        reading: reading_by(cells, at + 5),
         since: value_or(cells, at + 6, 1),
         repair: value_or(cells, at + 7, 0),
         spans: spans_by(cells, at + 8),

@@ -3,12 +3,14 @@
 -- Assumes nothing.
 use mathlib.Core.Path.{◌≡◌, refl, ap, sym, ◌∙◌}
 use mathlib.Core.Bool.{Bool, true, false, cond}
-use mathlib.Core.List.{List, [], ◌∷◌, ◌++◌, append_assoc}
+use mathlib.Core.List.{List, [], ◌∷◌, ◌++◌, append_assoc, append-nil}
 use Prim.Native.Nat.{ℕ, zero, suc, ◌+◌, ◌*◌, ◌/◌, ◌%◌, ◌≤◌, ◌<◌}
 use native.Mathlib.Omega.{arith}
 use lib.Arith.{mod-mul}
 use lib.Dec.{ltb}
-use lib.ListN.{length, set, length-set}
+use lib.ListN.{length, set, length-set, take, get_or}
+use lib.Seq.{take-suc}
+use native.Mathlib.Numerals.{add-one}
 use Rattle.decimal.specs.Output.{Output, output, with_byte, written}
 use Rattle.decimal.specs.Decimal.{digits_in, digits, two_digits}
 use borrow.Author.Tests.{lt-ltb, le-ltb, ltb-true, ltb-false}
@@ -19,22 +21,18 @@ unfolding written
 written_append o [] ys = refl
 written_append o (x ∷ xs) ys = written_append (with_byte o x) xs ys
 
--- one byte more
-pub written_byte : (o : Output) (xs : List ℕ) (b : ℕ) → with_byte (written o xs) b ≡ written o (xs ++ (b ∷ []))
-unfolding written
-written_byte o xs b = written_append o xs (b ∷ [])
+-- the next byte of a list
+pub written_next : (o : Output) (xs : List ℕ) (i : ℕ) → i < length xs → written (written o (take i xs)) (get_or xs i 0 ∷ []) ≡ written o (take (i + 1) xs)
+written_next o xs i h =
+    written_append o (take i xs) (get_or xs i 0 ∷ [])
+    ∙ ap (written o) (sym (take-suc xs i 0 h) ∙ ap (λ (n : ℕ). take n xs) (sym (add-one i)))
 
 pub written_none : (o : Output) → written o [] ≡ o
 unfolding written
 written_none o = refl
 
-pub written_one : (o : Output) (b : ℕ) → written o (b ∷ []) ≡ with_byte o b
-unfolding written
-written_one o b = refl
-
-pub written_after : (o : Output) (b : ℕ) (bs : List ℕ) → written (with_byte o b) bs ≡ written o (b ∷ bs)
-unfolding written
-written_after o b bs = refl
+pub written_end : (o : Output) (xs : List ℕ) → written o (xs ++ []) ≡ written o xs
+written_end o xs = ap (written o) (append-nil xs)
 
 -- what is written behind what stands there already
 pub then : (o p : Output) (xs ys : List ℕ) {r : Output} → p ≡ written o xs → r ≡ written p ys → r ≡ written o (xs ++ ys)

@@ -20,3 +20,7 @@ two_digits n = (48 + n / 10) ∷ ((48 + n % 10) ∷ [])
 unfoldable pub signed : ℤ → List ℕ
 signed (pos n) = digits n
 signed (negsuc n) = 45 ∷ digits (suc n)
+
+-- the most bytes of a number or a signed one, as numbers are machine words
+abbrev pub most_number : ℕ
+most_number = 20

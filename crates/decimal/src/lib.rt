@@ -1,31 +1,15 @@
-// Numbers and bytes written into a lent buffer. Each function writes from a place on and gives the place after what it wrote; bytes
-// for which the buffer has no room are left out.
-#![tactic(auto)]
+// Numbers and bytes written into a lent buffer, one behind the other; bytes for which the buffer has no room are left out.
+#![tactic(auto, using(crate::proofs::Laws::written_append))]
 
-ghost use Rattle.std.specs.Prelude.{◌≡◌, ◌+◌, ◌<◌, nat_abs};
-ghost use Rattle.decimal.specs.Output.{output, with_byte, written};
-ghost use Rattle.decimal.specs.Decimal.{two_digits, digits, signed};
+ghost use Rattle.std.specs.Prelude.{◌≡◌, ◌+◌, ◌<◌, ◌≤◌, [], ◌∷◌, length};
+ghost use Rattle.decimal.specs.Writer.{Wrote};
+ghost use Rattle.decimal.specs.Decimal.{two_digits, digits, signed, most_number};
 
-pub fn put_byte(out: &mut [u8], at: usize, byte: u8) -> usize
-    ensures { output out.new result ≡ with_byte (output out.old at) byte }
-{
-    if at < out.len() {
-        out[at] = byte;
-        return at + 1;
-    }
-    at
-}
-
-pub fn put_bytes(out: &mut [u8], at: usize, bytes: &[u8]) -> usize
-    ensures { output out.new result ≡ written (output out.old at) bytes.now }
-{
-    let mut place = at;
-    let mut i: usize = 0;
-    while i < bytes.len() {
-        place = put_byte(out, place, bytes[i]);
-        i += 1;
-    }
-    place
+// A lent buffer, and the place where the next byte goes.
+#[derive(Drop)]
+pub struct Writer<'a> {
+    pub buffer: &'a mut [u8],
+    pub place: usize,
 }
 
 // The digit of a number below 10.
@@ -33,50 +17,66 @@ fn digit(n: u64) -> u8
     requires { n < 10 }
     ensures { result ≡ 48 + n }
 {
-    48 + n as u8
+    b'0' + n as u8
 }
 
-// The tens and the last digit of a number below 100.
-fn put_two(out: &mut [u8], at: usize, n: u64) -> usize
-    requires { n < 100 }
-    ensures { output out.new result ≡ written (output out.old at) (two_digits n) }
-{
-    let place = put_byte(out, at, digit(n / 10));
-    put_byte(out, place, digit(n % 10))
-}
+impl Writer<'_> {
+    #[tactic(auto, unfolding(crate::specs::Output::with_byte, crate::specs::Output::written))]
+    pub fn put_byte(&mut self, byte: u8)
+        ensures result_after { Wrote self.old self.new (byte ∷ []) }
+        ensures upper_bound { self.new.place ≤ self.old.place + 1 }
+    {
+        if self.place < self.buffer.len() {
+            self.buffer[self.place] = byte;
+            self.place += 1;
+        }
+    }
 
-// A number: the digits of its hundreds, then its last two.
-pub fn put_number(out: &mut [u8], at: usize, n: u64) -> usize
-    ensures { output out.new result ≡ written (output out.old at) (digits n) }
-{
-    if n < 10 {
-        return put_byte(out, at, digit(n));
+    #[tactic(auto, using(crate::proofs::Laws::written_next), unfolding(crate::specs::Output::written))]
+    pub fn put_bytes(&mut self, bytes: &[u8])
+        ensures result_after { Wrote self.old self.new bytes.now }
+        ensures upper_bound { self.new.place ≤ self.old.place + length bytes.now }
+    {
+        for byte in bytes {
+            self.put_byte(*byte);
+        }
     }
-    if n < 100 {
-        return put_two(out, at, n);
-    }
-    let place = put_number(out, at, n / 100);
-    put_two(out, place, n % 100)
-}
 
-// A number without its sign.
-fn size(z: i64) -> u64
-    ensures { result ≡ nat_abs z }
-{
-    if z < 0 {
-        return (-1 - z) as u64 + 1;
+    // The tens and the last digit of a number below 100.
+    #[tactic(auto, unfolding(crate::specs::Output::written))]
+    fn put_two(&mut self, n: u64)
+        requires { n < 100 }
+        ensures { Wrote self.old self.new (two_digits n) }
+    {
+        self.put_byte(digit(n / 10));
+        self.put_byte(digit(n % 10));
     }
-    z as u64
-}
 
-// A number with its sign; a zero has none.
-pub fn put_signed(out: &mut [u8], at: usize, z: i64) -> usize
-    ensures { output out.new result ≡ written (output out.old at) (signed z) }
-{
-    let n = size(z);
-    if z < 0 {
-        let place = put_byte(out, at, b'-');
-        return put_number(out, place, n);
+    // A number: the digits of its hundreds, then its last two.
+    #[tactic(auto, using(crate::proofs::Laws::written_append, crate::proofs::Laws::digits_one, crate::proofs::Laws::digits_two, crate::proofs::Laws::digits_hundreds))]
+    pub fn put_number(&mut self, n: u64)
+        ensures result_after { Wrote self.old self.new (digits n) }
+        ensures upper_bound { self.new.place ≤ self.old.place + most_number }
+    {
+        if n < 10 {
+            self.put_byte(digit(n));
+        } else if n < 100 {
+            self.put_two(n);
+        } else {
+            self.put_number(n / 100);
+            self.put_two(n % 100);
+        }
     }
-    put_number(out, at, n)
+
+    // A number with its sign; a zero has none.
+    #[tactic(auto, using(crate::proofs::Laws::written_append, crate::proofs::Signs::signed_below, crate::proofs::Signs::signed_above))]
+    pub fn put_signed(&mut self, z: i64)
+        ensures result_after { Wrote self.old self.new (signed z) }
+        ensures upper_bound { self.new.place ≤ self.old.place + most_number }
+    {
+        if z < 0 {
+            self.put_byte(b'-');
+        }
+        self.put_number(z.unsigned_abs());
+    }
 }

@@ -1,15 +1,15 @@
 -- A verdict row by row: the first row whose condition holds gives the refusal, and the rows before it are passed over.
 -- Assumes nothing.
+use Rattle.std.specs.Prelude.{Ok, Err}
 use mathlib.Core.Path.{◌≡◌, refl}
 use mathlib.Core.Bool.{Bool, true, false}
 use mathlib.Core.List.{List, [], ◌∷◌}
 use Rattle.ledger.specs.declared.Refusal.{Refusal}
-use Rattle.ledger.specs.declared.Verdict.{Verdict}
-use Rattle.ledger.specs.declared.Verdict.TheVariants.{Accepted, Refused}
+use Rattle.ledger.specs.Answers.{Verdict}
 use Rattle.ledger.specs.Calls.{Row, row, verdict}
 
 module _ (r : Refusal) (t : Bool) (xs : List Row) where
-  pub first : t ≡ true → Refused r ≡ verdict (row r t ∷ xs)
+  pub first : t ≡ true → Err r ≡ verdict (row r t ∷ xs)
   unfolding verdict
   first e = rw e
 
@@ -17,6 +17,6 @@ module _ (r : Refusal) (t : Bool) (xs : List Row) where
   unfolding verdict
   later e h = rw e h
 
-pub none : Accepted ≡ verdict []
+pub none : (Ok tt) ≡ verdict []
 unfolding verdict
 none = refl

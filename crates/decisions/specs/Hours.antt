@@ -1,6 +1,6 @@
 -- A settle, restate or void by what the sheet and the book have of its hour: whether it is accepted, its answer and text place, and, where it is
 -- accepted, its hour, and the hour's mark, energies and amounts after it.
-use Rattle.std.specs.Prelude.{ℕ, ◌*◌, Bool, true, false, cond, not, List, ◌++◌}
+use Rattle.std.specs.Prelude.{ℕ, ◌*◌, Bool, true, false, cond, not, List, ◌++◌, Ok, Err}
 use Rattle.energy.specs.declared.HubKwh.{HubKwh}
 use Rattle.units.specs.Units.{unit_count}
 use Rattle.record_text.specs.declared.RecordRead.{RecordRead}
@@ -10,24 +10,23 @@ use Rattle.settlement.specs.Ranges.{hour_by, proportions_by}
 use Rattle.state.specs.Book.{no_result, open_mark, settled_mark}
 use Rattle.ledger.specs.declared.Refusal.{Refusal}
 use Rattle.ledger.specs.declared.Refusal.TheVariants.{HourStands, HourOpen}
-use Rattle.ledger.specs.declared.Verdict.{Verdict}
-use Rattle.ledger.specs.declared.Verdict.TheVariants.{Accepted as passes, Refused as fails}
-use Rattle.ledger.specs.declared.Answer.TheVariants.{Posted, Refused}
+use Rattle.ledger.specs.Answers.{Verdict}
+use Rattle.ledger.specs.declared.Effect.TheVariants.{Posted}
 use Rattle.ledger.specs.Calls.{Row, row, verdict, text_rows, record_tests, void_tests, place_after}
 use Rattle.decisions.specs.declared.HourChange.{HourChange}
 
 -- a refusal changes nothing
 abbrev pub hour_refused : (start : ℕ) → Refusal → HourChange
-hour_refused start r = record { accepted = false; answer = Refused r; place = start; hour = 0; mark = open_mark; result = no_result }
+hour_refused start r = record { accepted = false; answer = Err r; place = start; hour = 0; mark = open_mark; result = no_result }
 
 -- "settle, restate and void append five per unit (..) and report how many"
 abbrev pub hour_changed : (units hour mark : ℕ) → HourResult → (place : ℕ) → HourChange
 hour_changed units hour mark result place =
-    record { accepted = true; answer = Posted (5 * unit_count units); place = place; hour = hour; mark = mark; result = result }
+    record { accepted = true; answer = Ok (Posted (5 * unit_count units)); place = place; hour = hour; mark = mark; result = result }
 
 abbrev pub change_by : Verdict → HourChange → (Refusal → HourChange) → HourChange
-change_by passes d f = d
-change_by (fails r) d f = f r
+change_by (Ok tt) d f = d
+change_by (Err r) d f = f r
 
 -- void: 10 41 42
 unfoldable pub void_decided : (units hour : ℕ) → (settled : Bool) → (count places : ℕ) → HourChange

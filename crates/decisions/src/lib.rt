@@ -6,14 +6,14 @@ ghost use Rattle.std.specs.Prelude.{◌≡◌, true, false, ◌&&◌, ◌||◌, 
 ghost use Rattle.lines.specs.declared.ReadAnswer.TheVariants.{Read};
 ghost use Rattle.settlement.specs.Ranges.{HourDue};
 ghost use Rattle.ledger.specs.Calls.{verdict, bad_hour, unknown_units, short_of, book_fits};
-ghost use Rattle.ledger.specs.Numbers.{refusal_number, refusal_line, number_of, line_of, posted_of};
+ghost use Rattle.ledger.specs.Numbers.{number_of, line_of, posted_of};
 ghost use Rattle.ledger.specs.Requests.{part_of, asked_at};
 ghost use Rattle.decisions.specs.Calls.{commitment_call, record_call, decoded, call_start};
 ghost use Rattle.decisions.specs.Changes.{hour_index, entry_index, take_change, release_change, move_change, change_of, change_tests};
 ghost use Rattle.decisions.specs.Hours.{hour_refused, hour_changed, void_decided, standing_row, record_decided};
 
 use energy::{Energy, HubKwh};
-use ledger::{Answer, Asked, Refusal, Verdict};
+use ledger::{Asked, Effect, Refusal};
 use lines::ReadAnswer;
 use record::Record;
 use record_text::RecordRead;
@@ -74,7 +74,7 @@ pub struct CommitmentChange {
 #[derive(Clone, Copy)]
 pub struct HourChange {
     pub accepted: bool,
-    pub answer: Answer,
+    pub answer: Result<Effect, Refusal>,
     pub place: u64,
     pub hour: u64,
     pub mark: u64,
@@ -313,33 +313,33 @@ pub fn change_verdict(
     source: HubKwh,
     held: HubKwh,
     last: HubKwh,
-) -> Verdict
+) -> Result<(), Refusal>
     ensures { result ≡ verdict (change_tests units change settled source.0 held.0 last.0) }
 {
     let out = change.out;
     let into = change.into;
     if hour_bad(change.hour) {
-        return Verdict::Refused(Refusal::HourRange);
+        return Err(Refusal::HourRange);
     }
     if units_unknown(units, change.from, change.to) {
-        return Verdict::Refused(Refusal::UnitUnknown);
+        return Err(Refusal::UnitUnknown);
     }
     if same_units(change) {
-        return Verdict::Refused(Refusal::SameUnit);
+        return Err(Refusal::SameUnit);
     }
     if settled {
-        return Verdict::Refused(Refusal::HourSettled);
+        return Err(Refusal::HourSettled);
     }
     if no_amount(change) {
-        return Verdict::Refused(Refusal::NoAmount);
+        return Err(Refusal::NoAmount);
     }
     if out.exceeds(source) {
-        return Verdict::Refused(Refusal::HeldLess);
+        return Err(Refusal::HeldLess);
     }
     if over_offer(last, held, into) {
-        return Verdict::Refused(Refusal::OverOffer);
+        return Err(Refusal::OverOffer);
     }
-    Verdict::Accepted
+    Ok(())
 }
 
 fn least(a: u64, b: u64) -> u64
@@ -368,7 +368,7 @@ fn hour_refused(start: u64, refusal: Refusal) -> HourChange
 {
     HourChange {
         accepted: false,
-        answer: Answer::Refused(refusal),
+        answer: Err(refusal),
         place: start,
         hour: 0,
         mark: 0,
@@ -381,7 +381,7 @@ fn hour_changed(units: u64, hour: u64, mark: u64, res: HourResult, place: u64) -
 {
     HourChange {
         accepted: true,
-        answer: Answer::Posted(5 * units::unit_count(units)),
+        answer: Ok(Effect::Posted(5 * units::unit_count(units))),
         place,
         hour,
         mark,
@@ -498,68 +498,31 @@ pub fn part_of(text: &[u8], begin: u64, end: u64) -> &[u8]
     &text[first as usize..last as usize]
 }
 
-// Document 01's number of a refusal.
-pub fn refusal_number(refusal: Refusal) -> u64
-    ensures { result ≡ refusal_number refusal }
-{
-    match refusal {
-        Refusal::Text(t) => lines::text_number(t),
-        Refusal::SheetRange => 9,
-        Refusal::HourRange => 10,
-        Refusal::UnitUnknown => 11,
-        Refusal::BookRange => 12,
-        Refusal::HourSettled => 20,
-        Refusal::NoAmount => 21,
-        Refusal::OverOffer => 22,
-        Refusal::HeldLess => 23,
-        Refusal::SameUnit => 24,
-        Refusal::Minutes => 31,
-        Refusal::Readings => 32,
-        Refusal::Proportions => 33,
-        Refusal::HourStands => 40,
-        Refusal::HourOpen => 41,
-        Refusal::NoPlaces => 42,
-    }
-}
-
-// The line of a refusal 1 to 4, otherwise 0.
-pub fn refusal_line(refusal: Refusal) -> u64
-    ensures { result ≡ refusal_line refusal }
-{
-    if let Refusal::Text(t) = refusal {
-        return lines::text_line(t);
-    }
-    0
-}
-
 // An answer in numbers: the refusal's or 0, its line, and how many postings were appended.
-pub fn number_of(answer: Answer) -> u64
+pub fn number_of(answer: Result<Effect, Refusal>) -> u64
     ensures { result ≡ number_of answer }
 {
     match answer {
-        Answer::Accepted => 0,
-        Answer::Posted(_) => 0,
-        Answer::Refused(refusal) => refusal_number(refusal),
+        Ok(_) => 0,
+        Err(refusal) => refusal.number(),
     }
 }
 
-pub fn line_of(answer: Answer) -> u64
+pub fn line_of(answer: Result<Effect, Refusal>) -> u64
     ensures { result ≡ line_of answer }
 {
     match answer {
-        Answer::Accepted => 0,
-        Answer::Posted(_) => 0,
-        Answer::Refused(refusal) => refusal_line(refusal),
+        Ok(_) => 0,
+        Err(refusal) => refusal.line(),
     }
 }
 
-pub fn posted_of(answer: Answer) -> u64
+pub fn posted_of(answer: Result<Effect, Refusal>) -> u64
     ensures { result ≡ posted_of answer }
 {
     match answer {
-        Answer::Accepted => 0,
-        Answer::Posted(n) => n,
-        Answer::Refused(_) => 0,
+        Ok(Effect::Posted(n)) => n,
+        Ok(Effect::Committed) | Err(_) => 0,
     }
 }
 

@@ -12,6 +12,7 @@ use formulas::{Deviations, KINDS};
 use record::{Span, UnitRecord};
 
 // max(test - net(capability), 0) × minutes of a span, by the unit's own use.
+#[tactic(auto, using(crate::proofs::Weights::short_most), unfolding(crate::specs::Deviation::short_minutes))]
 fn short_minutes(own: u64, test: NetKwh, span: Span) -> u64
     requires { (own ≤ 10000) × (test.0 ≤ 1000000) × SpanInRange span }
     ensures { result ≡ short_minutes own test span }
@@ -25,19 +26,12 @@ fn proportions(own: u64, u: UnitRecord) -> [u64; KINDS]
     requires { (own ≤ 10000) × UnitInRange u }
     ensures { result ≡ the_proportions own u }
 {
-    let test = u.test;
-    let spans = u.spans;
     let mut sums = [0u64; KINDS];
-    let mut i: usize = 0;
-    while i < spans {
-        let span = u.span[i];
-        let kind = record::counted_kind(span);
+    for span in &u.span[..u.spans] {
+        let kind = record::counted_kind(*span);
         if kind >= 2 {
-            let j = (kind - 2) as usize;
-            let more = short_minutes(own, test, span);
-            sums[j] += more;
+            sums[(kind - 2) as usize] += short_minutes(own, u.test, *span);
         }
-        i += 1;
     }
     sums
 }
@@ -46,16 +40,13 @@ fn proportions(own: u64, u: UnitRecord) -> [u64; KINDS]
 fn deviations_by(shares: [u64; KINDS]) -> Deviations
     ensures { result ≡ deviations_by shares }
 {
-    let mut kwh = [NetKwh(0); KINDS];
-    let mut j: usize = 0;
-    while j < KINDS {
-        kwh[j] = NetKwh(shares[j]);
-        j += 1;
+    Deviations {
+        kwh: shares.map(|share| NetKwh(share)),
     }
-    Deviations { kwh: kwh }
 }
 
 // The unit's deviation by kinds.
+#[tactic(auto, unfolding(crate::specs::Deviation::deviations_of))]
 pub fn split(own: u64, u: UnitRecord) -> Deviations
     requires { (own ≤ 10000) × UnitInRange u }
     ensures { result ≡ deviations_of own u }
@@ -71,26 +62,16 @@ fn no_proportion(own: u64, u: UnitRecord) -> bool
     requires { (own ≤ 10000) × UnitInRange u }
     ensures { result ≡ no_proportion own u }
 {
-    let sums = proportions(own, u);
-    let mut j: usize = 0;
-    while j < KINDS {
-        if sums[j] != 0 {
-            return false;
-        }
-        j += 1;
-    }
-    true
+    proportions(own, u).iter().all(|sum| *sum == 0)
 }
 
 // Whether a unit has no deviation, or a proportion over 0.
+#[tactic(auto, using(std::proofs::lemmas::Bool::Decides::nat_tests), unfolding(crate::specs::Proportions::unit_proportioned))]
 fn unit_proportioned(own: u64, u: UnitRecord) -> bool
     requires { (own ≤ 10000) × UnitInRange u }
     ensures { result ≡ unit_proportioned own u }
 {
-    if u.deviation.equals(NetKwh(0)) {
-        return true;
-    }
-    !no_proportion(own, u)
+    u.deviation == NetKwh(0) || !no_proportion(own, u)
 }
 
 // The same of the place k, true outside the plant.
@@ -98,8 +79,5 @@ pub fn proportioned_at(units: u64, k: usize, own: u64, u: UnitRecord) -> bool
     requires { member_at units k ≡ true → (own ≤ 10000) × UnitInRange u }
     ensures { result ≡ cond (member_at units k) (unit_proportioned own u) true }
 {
-    if units::member_at(units, k) {
-        return unit_proportioned(own, u);
-    }
-    true
+    !units::member_at(units, k) || unit_proportioned(own, u)
 }

@@ -2,6 +2,7 @@
 -- and book: the rows look at nothing else, and a refusal changes nothing, whatever the hour. So an hour that is stored in the table, with the differences
 -- of its amounts in the rows, is the call carried out.
 -- Assumes nothing.
+use Rattle.std.specs.Prelude.{Ok, Err}
 use mathlib.Core.Path.{◌≡◌, refl, sym, ◌∙◌, ap, ap₂, subst}
 use mathlib.Core.Bool.{Bool, true, false, cond}
 use mathlib.Core.List.{List, ◌++◌}
@@ -34,11 +35,9 @@ use Rattle.state.proofs.Writing.{hour_amount}
 use Rattle.postings.specs.Plan.{plan_of}
 use Rattle.ledger.specs.declared.Refusal.{Refusal}
 use Rattle.ledger.specs.declared.Refusal.TheVariants.{Text}
-use Rattle.ledger.specs.declared.Verdict.{Verdict}
-use Rattle.ledger.specs.declared.Verdict.TheVariants.{Accepted as passes, Refused as fails}
-use Rattle.ledger.specs.declared.Decision.{Decision}
+use Rattle.ledger.specs.Answers.{Verdict}
 use Rattle.ledger.specs.Ledger.{given, void}
-use Rattle.ledger.specs.Calls.{Row, verdict, bad_hour, is_settled, text_rows, record_tests, record_rows, void_rows, request_rows, no_plan, place_after, by_verdict, refused_with, posted_with, recorded_at, voided_at, accepted_in, request_of, request_decided}
+use Rattle.ledger.specs.Calls.{Row, verdict, bad_hour, is_settled, text_rows, record_tests, record_rows, void_rows, request_rows, no_plan, place_after, by_verdict, refused_with, posted_with, recorded_at, voided_at, accepted_in, request_of, request_decided, Decision}
 use Rattle.numbers.specs.Numbers.{hour_items, differences}
 use Rattle.numbers.proofs.Packed.{amount_in_lem, difference_at, differences_length}
 use Rattle.numbers.proofs.Pasted.{pasted_before, pasted_in}
@@ -93,8 +92,8 @@ module _ (s : Sheet) (b : Book) (count room : ℕ) where
 
   by_on : (v : Verdict) (h start : ℕ) (d : HourChange) (x : Decision) → decision_of s.units b count h d ≡ x
       → decision_of s.units b count h (change_by v d (hour_refused start)) ≡ by_verdict v x (refused_with b count start)
-  by_on passes h start d x e = e
-  by_on (fails r) h start d x e = refused_on_lem h start r
+  by_on (Ok tt) h start d x e = e
+  by_on (Err r) h start d x e = refused_on_lem h start r
 
   -- a record that was read, by the row of 40 or 41
   read_on : (r : Record) (start place : ℕ) (standing : Row)

@@ -1,6 +1,7 @@
 -- What a settle, restate or void rests on. The book's ranges bound the amounts that stand; the sheet's and the record's bound those of a record that was
 -- read; and what is used of the sheet in the record's hour is that of the sheet.
 -- Assumes nothing.
+use Rattle.std.specs.Prelude.{Ok, Err}
 use mathlib.Core.Path.{◌≡◌, refl, sym, ◌∙◌, ap, subst}
 use mathlib.Core.Bool.{Bool, true, false, true≢false}
 use mathlib.Core.List.{List}
@@ -40,8 +41,7 @@ use Rattle.state.specs.Ranges.{most_amount, book_holds}
 use Rattle.state.proofs.InRange.{limit_most, book_in_range}
 use Rattle.state.proofs.Writing.{hour_commitment}
 use Rattle.state.proofs.Empty.{none_amounts, none_amount}
-use Rattle.ledger.specs.declared.Verdict.{Verdict}
-use Rattle.ledger.specs.declared.Verdict.TheVariants.{Accepted as passes, Refused as fails}
+use Rattle.ledger.specs.Answers.{Verdict}
 use Rattle.ledger.specs.Ledger.{given}
 use Rattle.ledger.specs.Calls.{verdict, record_tests, void_tests}
 use Rattle.ledger.proofs.Accepted.{given_range}
@@ -110,8 +110,8 @@ due_bounded day r held due =
 -- those of an accepted change
 accepted_bounded : (v : Verdict) (d : HourChange) (start : ℕ) → Bounded d.result.amounts → (change_by v d (hour_refused start)).accepted ≡ true
     → Bounded (change_by v d (hour_refused start)).result.amounts
-accepted_bounded passes d start b t = b
-accepted_bounded (fails r) d start b t = absurd (true≢false (sym t))
+accepted_bounded (Ok tt) d start b t = b
+accepted_bounded (Err r) d start b t = absurd (true≢false (sym t))
 
 void_bounded : (units hour : ℕ) (settled : Bool) (count room : ℕ) → let d = void_decided units hour settled count room in d.accepted ≡ true → Bounded d.result.amounts
 unfolding void_decided

@@ -8,13 +8,13 @@ ghost use Rattle.engine.specs.Table.{table, Ready, Carried};
 ghost use Rattle.engine.specs.Stored.{Stored, StoreReady};
 
 use decisions::{Call, HourChange};
-use ledger::Answer;
+use ledger::{Effect, Refusal};
 use terms::DayTerms;
 
 // What a call carried out answers: the answer and the text place, and the hour of what it posts.
 #[derive(Clone, Copy)]
 pub struct Done {
-    pub answer: Answer,
+    pub answer: Result<Effect, Refusal>,
     pub place: u64,
     pub hour: u64,
 }
@@ -125,7 +125,7 @@ pub fn carry_out(
 }
 
 // The answer of a take, release or move: it posts nothing.
-fn changed(answer: Answer) -> Done
+fn changed(answer: Result<Effect, Refusal>) -> Done
     ensures { result ≡ record { answer = answer; place = 0; hour = 0 } }
 {
     Done {

@@ -1,244 +1,183 @@
 // What `replay` prints of a list of calls, written into a lent buffer: a line for each call with its result, and the tables behind them.
-#![tactic(auto)]
+#![tactic(auto, using(decimal::proofs::Laws::written_append, decimal::proofs::Laws::written_none))]
 
 ghost use Rattle.std.specs.Prelude.{◌≡◌, ◌<◌};
 ghost use Rattle.state.specs.Sizes.{hours, places};
-ghost use Rattle.decimal.specs.Output.{output, written};
+ghost use Rattle.decimal.specs.Writer.{Wrote};
 ghost use Rattle.entries.specs.Entries.{field, amount_field, refusal_text, sheet_refused, answer_text, total_text, result_text, line_text, entry_line, stop_line};
-ghost use Rattle.entries.specs.Tables.{commitment_line, hour_commitments, commitment_lines, settled_line, settled_units, settled_hour, settled_hours, tables, total_line};
+ghost use Rattle.entries.specs.Tables.{commitment_line, commitment_lines, tables, total_line};
 
+use decimal::Writer;
 use energy::HubKwh;
-use ledger::{Answer, Refusal, TotalAnswer, Verdict};
+use ledger::{Effect, Refusal};
 use lines::TextRefusal;
 use state::Book;
 
 // A number behind a space.
-fn put_field(out: &mut [u8], at: usize, n: u64) -> usize
-    ensures { output out.new result ≡ written (output out.old at) (field n) }
+#[tactic(auto, using(decimal::proofs::Laws::written_append), unfolding(crate::specs::Entries::field))]
+fn put_field(out: &mut Writer, n: u64)
+    ensures { Wrote out.old out.new (field n) }
 {
-    let a = decimal::put_byte(out, at, b' ');
-    decimal::put_number(out, a, n)
+    out.put_byte(b' ');
+    out.put_number(n);
 }
 
 // An amount with its sign, behind a space.
-fn put_amount(out: &mut [u8], at: usize, z: i64) -> usize
-    ensures { output out.new result ≡ written (output out.old at) (amount_field z) }
+#[tactic(auto, using(decimal::proofs::Laws::written_append), unfolding(crate::specs::Entries::amount_field))]
+fn put_amount(out: &mut Writer, z: i64)
+    ensures { Wrote out.old out.new (amount_field z) }
 {
-    let a = decimal::put_byte(out, at, b' ');
-    decimal::put_signed(out, a, z)
+    out.put_byte(b' ');
+    out.put_signed(z);
 }
 
 // `refused=NUMBER`, for 1 to 4 with the line.
-fn put_refusal(out: &mut [u8], at: usize, refusal: Refusal) -> usize
-    ensures { output out.new result ≡ written (output out.old at) (refusal_text refusal) }
+#[tactic(auto, using(decimal::proofs::Laws::written_append, decimal::proofs::Laws::written_end), unfolding(crate::specs::Entries::refusal_text))]
+fn put_refusal(out: &mut Writer, refusal: Refusal)
+    ensures { Wrote out.old out.new (refusal_text refusal) }
 {
-    let number = decisions::refusal_number(refusal);
-    let a = decimal::put_bytes(out, at, b"refused=");
-    let b = decimal::put_number(out, a, number);
-    if 4 < number {
-        return b;
+    let number = refusal.number();
+    out.put_bytes(b"refused=");
+    out.put_number(number);
+    if number <= 4 {
+        out.put_bytes(b" line=");
+        out.put_number(refusal.line());
     }
-    let c = decimal::put_bytes(out, b, b" line=");
-    decimal::put_number(out, c, decisions::refusal_line(refusal))
 }
 
 // The line of a sheet that is refused.
-pub fn put_sheet_refused(out: &mut [u8], at: usize, refusal: TextRefusal) -> usize
-    ensures { output out.new result ≡ written (output out.old at) (sheet_refused refusal) }
+#[tactic(auto, using(decimal::proofs::Laws::written_append), unfolding(crate::specs::Entries::sheet_refused))]
+pub fn put_sheet_refused(out: &mut Writer, refusal: TextRefusal)
+    ensures { Wrote out.old out.new (sheet_refused refusal) }
 {
-    let a = decimal::put_bytes(out, at, b"sheet ");
-    let b = put_refusal(out, a, Refusal::Text(refusal));
-    decimal::put_byte(out, b, b'\n')
+    out.put_bytes(b"sheet ");
+    put_refusal(out, Refusal::Text(refusal));
+    out.put_byte(b'\n');
 }
 
-fn put_answer(out: &mut [u8], at: usize, answer: Answer) -> usize
-    ensures { output out.new result ≡ written (output out.old at) (answer_text answer) }
+#[tactic(auto, using(decimal::proofs::Laws::written_append), unfolding(crate::specs::Entries::answer_text))]
+fn put_answer(out: &mut Writer, answer: Result<Effect, Refusal>)
+    ensures { Wrote out.old out.new (answer_text answer) }
 {
     match answer {
-        Answer::Accepted => decimal::put_bytes(out, at, b"accepted"),
-        Answer::Posted(n) => {
-            let a = decimal::put_bytes(out, at, b"accepted=");
-            decimal::put_number(out, a, n)
+        Ok(Effect::Committed) => out.put_bytes(b"accepted"),
+        Ok(Effect::Posted(n)) => {
+            out.put_bytes(b"accepted=");
+            out.put_number(n);
         }
-        Answer::Refused(refusal) => put_refusal(out, at, refusal),
+        Err(refusal) => put_refusal(out, refusal),
     }
 }
 
-fn put_total(out: &mut [u8], at: usize, t: TotalAnswer) -> usize
-    ensures { output out.new result ≡ written (output out.old at) (total_text t.verdict t.sum) }
+#[tactic(auto, using(decimal::proofs::Laws::written_append), unfolding(crate::specs::Entries::total_text))]
+fn put_total(out: &mut Writer, t: Result<i64, Refusal>)
+    ensures { Wrote out.old out.new (total_text t) }
 {
-    let verdict = t.verdict;
-    match verdict {
-        Verdict::Accepted => {
-            let a = decimal::put_bytes(out, at, b"sum=");
-            decimal::put_signed(out, a, t.sum)
+    match t {
+        Ok(sum) => {
+            out.put_bytes(b"sum=");
+            out.put_signed(sum);
         }
-        Verdict::Refused(refusal) => put_refusal(out, at, refusal),
+        Err(refusal) => put_refusal(out, refusal),
     }
 }
 
 // What a line of a kind answers; kind 7 is a total.
-fn put_result(out: &mut [u8], at: usize, kind: u64, answer: Answer, t: TotalAnswer) -> usize
-    ensures { output out.new result ≡ written (output out.old at) (result_text kind answer t) }
+#[tactic(auto, unfolding(crate::specs::Entries::result_text))]
+fn put_result(out: &mut Writer, kind: u64, answer: Result<Effect, Refusal>, t: Result<i64, Refusal>)
+    ensures { Wrote out.old out.new (result_text kind answer t) }
 {
     if kind == 7 {
-        return put_total(out, at, t);
+        put_total(out, t);
+    } else {
+        put_answer(out, answer);
     }
-    put_answer(out, at, answer)
 }
 
 // The line at a place of the text, as it stands.
-fn put_line(out: &mut [u8], at: usize, text: &[u8], from: usize) -> usize
-    ensures { output out.new result ≡ written (output out.old at) (line_text text.now from) }
+fn put_line(out: &mut Writer, text: &[u8], from: usize)
+    ensures { Wrote out.old out.new (line_text text.now from) }
 {
     if from < text.len() {
         let e = text::find(text, from, b'\n');
-        return decimal::put_bytes(out, at, &text[from..e]);
+        out.put_bytes(&text[from..e]);
     }
-    at
 }
 
 // The line of a call, and its result.
+#[tactic(auto, using(decimal::proofs::Laws::written_append), unfolding(crate::specs::Entries::entry_line))]
 pub fn put_entry(
-    out: &mut [u8],
-    at: usize,
+    out: &mut Writer,
     text: &[u8],
     from: usize,
     kind: u64,
-    answer: Answer,
-    t: TotalAnswer,
-) -> usize
-    ensures { output out.new result ≡ written (output out.old at) (entry_line text.now from kind answer t) }
+    answer: Result<Effect, Refusal>,
+    t: Result<i64, Refusal>,
+)
+    ensures { Wrote out.old out.new (entry_line text.now from kind answer t) }
 {
-    let a = put_line(out, at, text, from);
-    let b = decimal::put_byte(out, a, b' ');
-    let c = put_result(out, b, kind, answer, t);
-    decimal::put_byte(out, c, b'\n')
+    put_line(out, text, from);
+    out.put_byte(b' ');
+    put_result(out, kind, answer, t);
+    out.put_byte(b'\n');
 }
 
 // The line of the text that is no call.
-pub fn put_stop(out: &mut [u8], at: usize, line: u64, refusal: u64) -> usize
-    ensures { output out.new result ≡ written (output out.old at) (stop_line line refusal) }
+#[tactic(auto, using(decimal::proofs::Laws::written_append), unfolding(crate::specs::Entries::stop_line))]
+pub fn put_stop(out: &mut Writer, line: u64, refusal: u64)
+    ensures { Wrote out.old out.new (stop_line line refusal) }
 {
-    let a = decimal::put_bytes(out, at, b"line=");
-    let b = decimal::put_number(out, a, line);
-    let c = decimal::put_bytes(out, b, b" refused=");
-    let d = decimal::put_number(out, c, refusal);
-    decimal::put_byte(out, d, b'\n')
+    out.put_bytes(b"line=");
+    out.put_number(line);
+    out.put_bytes(b" refused=");
+    out.put_number(refusal);
+    out.put_byte(b'\n');
 }
 
 // The commitment of the unit of place k in hour h, both from 0, where it is over 0.
-fn put_commitment(out: &mut [u8], at: usize, book: Book, h: usize, k: usize) -> usize
+#[tactic(auto, using(decimal::proofs::Laws::written_append, decimal::proofs::Laws::written_none), unfolding(crate::specs::Tables::commitment_line))]
+fn put_commitment(out: &mut Writer, book: &Book, h: usize, k: usize)
     requires { (h < hours) × (k < places) }
-    ensures { output out.new result ≡ written (output out.old at) (commitment_line book h k) }
+    ensures { Wrote out.old out.new (commitment_line book.now h k) }
 {
-    let held = state::commitment_at(book, h, k);
-    if held.equals(HubKwh(0)) {
-        return at;
+    let held = book.commitment[8 * h + k];
+    if held != HubKwh(0) {
+        out.put_bytes(b"commitment");
+        put_field(out, h as u64 + 1);
+        put_field(out, k as u64 + 1);
+        put_field(out, held.0);
+        out.put_byte(b'\n');
     }
-    let a = decimal::put_bytes(out, at, b"commitment");
-    let b = put_field(out, a, h as u64 + 1);
-    let c = put_field(out, b, k as u64 + 1);
-    let d = put_field(out, c, held.0);
-    decimal::put_byte(out, d, b'\n')
 }
 
-fn put_hour_commitments(out: &mut [u8], at: usize, book: Book, h: usize) -> usize
-    requires { h < hours }
-    ensures { output out.new result ≡ written (output out.old at) (hour_commitments book h) }
+#[tactic(auto, using(listing::proofs::Joined::none_joined, listing::proofs::Joined::next_joined, crate::proofs::Commitments::all_commitments))]
+fn put_commitments(out: &mut Writer, book: &Book)
+    ensures { Wrote out.old out.new (commitment_lines book.now) }
 {
-    let mut place = at;
-    let mut k: usize = 0;
-    while k < 8 {
-        place = put_commitment(out, place, book, h, k);
-        k += 1;
+    for e in 0..192 {
+        put_commitment(out, book, e / 8, e % 8);
     }
-    place
-}
-
-fn put_commitments(out: &mut [u8], at: usize, book: Book) -> usize
-    ensures { output out.new result ≡ written (output out.old at) (commitment_lines book) }
-{
-    let mut place = at;
-    let mut h: usize = 0;
-    while h < 24 {
-        place = put_hour_commitments(out, place, book, h);
-        h += 1;
-    }
-    place
-}
-
-// The unit of place k in hour h, both from 0, where that unit is in the plant.
-fn put_settled(out: &mut [u8], at: usize, units: u64, book: Book, h: usize, k: usize) -> usize
-    requires { (h < hours) × (k < places) }
-    ensures { output out.new result ≡ written (output out.old at) (settled_line units book h k) }
-{
-    if units::member_at(units, k) {
-        let grains = state::energy_at(book, h, k);
-        let amounts = state::amounts_at(book, h, k);
-        let a = decimal::put_bytes(out, at, b"settled ");
-        return listing::put_unit_line(out, a, h as u64 + 1, k as u64 + 1, grains, amounts);
-    }
-    at
-}
-
-fn put_settled_units(out: &mut [u8], at: usize, units: u64, book: Book, h: usize) -> usize
-    requires { h < hours }
-    ensures { output out.new result ≡ written (output out.old at) (settled_units units book h) }
-{
-    let mut place = at;
-    let mut k: usize = 0;
-    while k < 8 {
-        place = put_settled(out, place, units, book, h, k);
-        k += 1;
-    }
-    place
-}
-
-// Hour h, from 0, where it stands settled.
-fn put_settled_hour(out: &mut [u8], at: usize, units: u64, book: Book, h: usize) -> usize
-    requires { h < hours }
-    ensures { output out.new result ≡ written (output out.old at) (settled_hour units book h) }
-{
-    if state::mark_at(book, h) == 1 {
-        return put_settled_units(out, at, units, book, h);
-    }
-    at
-}
-
-fn put_settled_hours(out: &mut [u8], at: usize, units: u64, book: Book) -> usize
-    ensures { output out.new result ≡ written (output out.old at) (settled_hours units book) }
-{
-    let mut place = at;
-    let mut h: usize = 0;
-    while h < 24 {
-        place = put_settled_hour(out, place, units, book, h);
-        h += 1;
-    }
-    place
 }
 
 // The tables of commitments and of settled hours.
-pub fn put_tables(out: &mut [u8], at: usize, units: u64, book: Book) -> usize
-    ensures { output out.new result ≡ written (output out.old at) (tables units book) }
+#[tactic(auto, using(decimal::proofs::Laws::written_append, crate::proofs::Settled::all_settled), unfolding(crate::specs::Tables::tables))]
+pub fn put_tables(out: &mut Writer, units: u64, book: &Book)
+    ensures { Wrote out.old out.new (tables units book.now) }
 {
-    let a = put_commitments(out, at, book);
-    put_settled_hours(out, a, units, book)
+    put_commitments(out, book);
+    listing::put_settled_behind(out, b"settled ", units, book);
 }
 
 // A line of the table of totals, where the unit is in the plant.
-pub fn put_listed(out: &mut [u8], at: usize, unit: u64, item: u64, t: TotalAnswer) -> usize
-    ensures { output out.new result ≡ written (output out.old at) (total_line unit item t.verdict t.sum) }
+#[tactic(auto, using(decimal::proofs::Laws::written_append, decimal::proofs::Laws::written_none), unfolding(crate::specs::Tables::total_line))]
+pub fn put_listed(out: &mut Writer, unit: u64, item: u64, t: Result<i64, Refusal>)
+    ensures { Wrote out.old out.new (total_line unit item t) }
 {
-    let verdict = t.verdict;
-    match verdict {
-        Verdict::Accepted => {
-            let a = decimal::put_bytes(out, at, b"total");
-            let b = put_field(out, a, unit);
-            let c = put_field(out, b, item);
-            let d = put_amount(out, c, t.sum);
-            decimal::put_byte(out, d, b'\n')
-        }
-        Verdict::Refused(_) => at,
+    if let Ok(sum) = t {
+        out.put_bytes(b"total");
+        put_field(out, unit);
+        put_field(out, item);
+        put_amount(out, sum);
+        out.put_byte(b'\n');
     }
 }

@@ -111,8 +111,7 @@ fn split_example<W: Write>(
         test: test,
         deviation: deviation,
         power: GrossKwh(0),
-        measured: false,
-        reading: NetKwh(0),
+        reading: None,
         since: 1,
         repair: 0,
         spans: spans,
@@ -240,7 +239,7 @@ fn test_example<W: Write>(
     let q = charge::counted_deviation(d, repair);
     say(out, name)?;
     say(out, b" ")?;
-    if charge::is_charged(q, true, reading, HubGrains(0), 0) {
+    if charge::is_charged(q, Some(reading), HubGrains(0), 0) {
         let w = charge::weighted(d, repair);
         say_number(out, charge::charge_of(w, since, cpf, 185000))?;
     } else {

@@ -71,7 +71,7 @@ module _ {F : Type 0} {A : Type 0} {g : Mut F (Bor A × Unit {0}) Bool} {f : F} 
   every_slice r is long ran pure =
       every_decided test xs n d r long
       (cases_from_all u f r (λ x. test x ≡ true) (λ x. test x ≡ false) ran (YieldsList-from_slice xs is)
-       (λ x q c. let p = pure x true q c in (p.0, sym p.1)) (λ x q c. sym (pure x false q c).1))
+      (λ x q c. let p = pure x true q c in (p.0, sym p.1)) (λ x q c. sym (pure x false q c).1))
 
 module _ {F : Type 0} {g : Mut F (ℕ × Unit {0}) Bool} {f : F} {s u : Range ℕ} (test : ℕ → Bool) (n : ℕ) where
   pub every_range : (r : Bool) → s ≡ record { start = 0; end = n }
@@ -79,7 +79,7 @@ module _ {F : Type 0} {g : Mut F (ℕ × Unit {0}) Bool} {f : F} {s u : Range �
       → ((x : ℕ) (y : Bool) (q : F) → Called g f (x, tt) y q → (q ≡ f) × (y ≡ test x)) → r ≡ every n test
   every_range r is ran pure =
       ranged r (cases_from_all u f r (λ x. test x ≡ true) (λ x. test x ≡ false) ran (YieldsList-from_range 0 n n is (omega arith))
-       (λ x q c. let p = pure x true q c in (p.0, sym p.1)) (λ x q c. sym (pure x false q c).1))
+      (λ x q c. let p = pure x true q c in (p.0, sym p.1)) (λ x q c. sym (pure x false q c).1))
     where
       at : (k : ℕ) → k < n → get_or (range_with_len 0 n) k 0 ≡ k
       at k l = get_or-range_with_len 0 n k 0 l ∙ omega arith

@@ -1,6 +1,7 @@
 -- What a call does over the list is what its definition says: the scan tells whether the postings up to the count hold wherever that matters,
 -- rows stored one after the other are the rows pasted in, and the rows that are decided agree with the definition's as far as they are stored.
 -- Assumes nothing.
+use Rattle.std.specs.Prelude.{Ok}
 use mathlib.Core.Path.{◌≡◌, refl, ◌∙◌, ap, sym}
 use mathlib.Core.Bool.{Bool, true, false}
 use mathlib.Core.List.{List}
@@ -19,11 +20,9 @@ use Rattle.postings.specs.declared.Posting.{Posting}
 use Rattle.postings.specs.Journal.{covered_by, count_holds, posted_hold, total_of, scanned_to}
 use Rattle.postings.proofs.Counted.{count_list, count_most, covered_all}
 use Rattle.postings.proofs.Scan.{scan_good, scan_sum}
-use Rattle.ledger.specs.declared.Decision.{Decision}
 use Rattle.ledger.specs.declared.Outcome.{Outcome}
-use Rattle.ledger.specs.declared.Verdict.TheVariants.{Accepted}
 use Rattle.ledger.specs.Ledger.{Call}
-use Rattle.ledger.specs.Calls.{book_fits, decided, request_of, journal_after, outcome_of}
+use Rattle.ledger.specs.Calls.{book_fits, decided, request_of, journal_after, outcome_of, Decision}
 use Rattle.ledger.specs.Total.{total_by, item_of, total_decided, total_on}
 use Rattle.ledger.proofs.Places.{decided_fits, decided_rows, fits_by, decided_same}
 use Rattle.single.specs.declared.CallDecision.{CallDecision}
@@ -93,7 +92,7 @@ module _ (l : List Posting) (count : ℕ) where
     total_same false fits known x y h = refl
     total_same true false known x y h = refl
     total_same true true false x y h = refl
-    total_same true true true x y h = λ i. record { verdict = Accepted; sum = h refl i }
+    total_same true true true x y h = λ i. Ok (h refl i)
 
     pub total_is : (unit item : ℕ)
         → total_decided s b unit item count (length l) (is_some (scanned_in l count unit item)) (unwrap_or (scanned_in l count unit item) (pos 0))

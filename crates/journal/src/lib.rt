@@ -16,7 +16,7 @@ ghost use Rattle.journal.specs.Leaves.{Leaves};
 
 use batch::Ran;
 use decisions::{Call, CommitmentCall, CommitmentKind, RecordCall};
-use ledger::{Asked, Outcome, TotalAnswer};
+use ledger::{Asked, Outcome, Refusal};
 use postings::{Posting, ROWS};
 use series::Stand;
 use sheet::Sheet;
@@ -207,7 +207,7 @@ pub fn total(
     book: Book,
     unit: u64,
     item: u64,
-) -> TotalAnswer
+) -> Result<i64, Refusal>
     ensures { (result ≡ total_on sheet (record { book = book; count = count; journal = list.old }) unit item) × (list.new ≡ list.old) }
 {
     let places = list.len();

@@ -11,9 +11,10 @@ use lib.ListN.{get_or}
 use Rattle.state.specs.declared.Book.{Book}
 use Rattle.state.specs.Sizes.{hours, places}
 use Rattle.state.specs.Book.{no_grains, past_amounts, mark_at, settled_mark}
-use Rattle.listing.specs.Listing.{joined, place_line, entry_line, entry_lines, hour_lines, settled_lines}
+use Rattle.units.specs.Units.{member_at}
+use Rattle.listing.specs.Listing.{joined, unit_line, line_of, hour_lines, settled_lines, line_behind, hour_behind, settled_behind, entry_line}
 
-joined_same : (n : ℕ) (f g : ℕ → List ℕ) → ((k : ℕ) → k < n → f k ≡ g k) → joined n f ≡ joined n g
+pub joined_same : (n : ℕ) (f g : ℕ → List ℕ) → ((k : ℕ) → k < n → f k ≡ g k) → joined n f ≡ joined n g
 unfolding joined
 joined_same zero f g h = refl
 joined_same (suc n) f g h = ap₂ ◌++◌ (joined_same n f g (λ k b. h k (omega arith))) (h n (omega arith))
@@ -27,7 +28,7 @@ joined_add a (suc b) f =
     ∙ (ap (λ (l : List ℕ). l ++ f (a + b)) (joined_add a b f) ∙ append_assoc (joined a f) (joined b (λ k. f (a + k))) (f (a + b)))
 
 -- n groups of eight
-joined_eights : (n : ℕ) (f : ℕ → List ℕ) → joined (8 * n) f ≡ joined n (λ h. joined 8 (λ k. f (8 * h + k)))
+pub joined_eights : (n : ℕ) (f : ℕ → List ℕ) → joined (8 * n) f ≡ joined n (λ h. joined 8 (λ k. f (8 * h + k)))
 unfolding joined
 joined_eights zero f = refl
 joined_eights (suc n) f =
@@ -41,16 +42,23 @@ joined_where true n f = refl
 joined_where false zero f = refl
 joined_where false (suc n) f = ap (λ (l : List ℕ). l ++ []) (joined_where false n f)
 
-module _ (units : ℕ) (b : Book) where
-  entry_at : (h k : ℕ) → k < places → entry_lines units b (8 * h + k) ≡ cond (eqb (mark_at b h) settled_mark) (place_line units b h k) []
+module _ (front : List ℕ) (units : ℕ) (b : Book) where
+  entry_at : (h k : ℕ) → k < places → entry_line front units b (8 * h + k) ≡ cond (eqb (mark_at b h) settled_mark) (line_behind front units b h k) []
+  unfolding line_behind
   entry_at h k l =
       let hour : (8 * h + k) / 8 ≡ h = omega arith in
       let place : (8 * h + k) % 8 ≡ k = omega arith in
-      λ i. entry_line units (mark_at b (hour i)) (hour i) (place i) (get_or b.energy (8 * h + k) no_grains) (get_or b.amounts (8 * h + k) past_amounts)
+      λ i. cond (eqb (mark_at b (hour i)) settled_mark)
+      (cond (member_at units (place i))
+      (front ++ unit_line (hour i + 1) (place i + 1) (get_or b.energy (8 * h + k) no_grains).0 (get_or b.amounts (8 * h + k) past_amounts)) []) []
 
-  pub all_entries : joined 192 (entry_lines units b) ≡ settled_lines units b
-  unfolding settled_lines hour_lines
+  pub all_entries : joined 192 (entry_line front units b) ≡ settled_behind front units b
+  unfolding settled_behind hour_behind
   all_entries =
-      joined_eights hours (entry_lines units b)
+      joined_eights hours (entry_line front units b)
       ∙ joined_same hours _ _ (λ h bh.
-      joined_same places _ _ (λ k l. entry_at h k l) ∙ joined_where (eqb (mark_at b h) settled_mark) places (place_line units b h))
+      joined_same places _ _ (λ k l. entry_at h k l) ∙ joined_where (eqb (mark_at b h) settled_mark) places (line_behind front units b h))
+
+pub none_in_front : (units : ℕ) (b : Book) → settled_behind [] units b ≡ settled_lines units b
+unfolding settled_behind hour_behind line_behind settled_lines hour_lines line_of
+none_in_front units b = refl

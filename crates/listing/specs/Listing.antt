@@ -1,6 +1,6 @@
 -- What the statement prints (01, Program and marked figures), as bytes: 10 is LF, 32 a space.
 use Rattle.std.specs.Prelude.{ℕ, zero, suc, ◌+◌, ◌*◌, ◌/◌, ◌%◌, cond, List, [], ◌∷◌, ◌++◌, eqb, get_or}
-use Rattle.decimal.specs.Decimal.{digits, signed}
+use Rattle.decimal.specs.Decimal.{digits, signed, most_number}
 use Rattle.text.specs.Bytes.{bytes}
 use Rattle.units.specs.Units.{member_at}
 use Rattle.energy.specs.declared.HubGrains.{HubGrains}
@@ -9,10 +9,7 @@ use Rattle.state.specs.declared.Book.{Book}
 use Rattle.state.specs.Sizes.{hours, places, items}
 use Rattle.state.specs.Book.{no_grains, past_amounts, mark_at, energy_at, amounts_at, item_of, settled_mark}
 
--- the most bytes that a number, a field, a line, an hour and a whole statement have, as numbers are machine words
-abbrev pub most_number : ℕ
-most_number = 20
-
+-- the most bytes that a field, a line, an hour and a whole statement have, as numbers are machine words
 abbrev pub most_field : ℕ
 most_field = most_number + 1
 
@@ -55,12 +52,21 @@ hour_lines units b h = cond (eqb (mark_at b h) settled_mark) (joined places (pla
 unfoldable pub settled_lines : (units : ℕ) → Book → List ℕ
 settled_lines units b = joined hours (hour_lines units b)
 
--- for the code: the same line by line, that of entry e being of hour e / 8 and place e % 8
-abbrev pub entry_line : (units mark h k : ℕ) → HubGrains → Amounts → List ℕ
-entry_line units mark h k grains a = cond (eqb mark settled_mark) (line_of units h k grains a) []
+-- the settled hours with the same bytes in front of each line; `none_in_front` (proofs/Entries.antt) says that without any they are `settled_lines`
+unfoldable pub line_behind : (front : List ℕ) → (units : ℕ) → Book → (h k : ℕ) → List ℕ
+line_behind front units b h k = cond (member_at units k) (front ++ unit_line (h + 1) (k + 1) (energy_at b h k).0 (amounts_at b h k)) []
 
-abbrev pub entry_lines : (units : ℕ) → Book → (e : ℕ) → List ℕ
-entry_lines units b e = entry_line units (mark_at b (e / 8)) (e / 8) (e % 8) (get_or b.energy e no_grains) (get_or b.amounts e past_amounts)
+unfoldable pub hour_behind : (front : List ℕ) → (units : ℕ) → Book → (h : ℕ) → List ℕ
+hour_behind front units b h = cond (eqb (mark_at b h) settled_mark) (joined places (line_behind front units b h)) []
+
+unfoldable pub settled_behind : (front : List ℕ) → (units : ℕ) → Book → List ℕ
+settled_behind front units b = joined hours (hour_behind front units b)
+
+-- for the code: the same line by line, that of entry e being of hour e / 8 and place e % 8
+abbrev pub entry_line : (front : List ℕ) → (units : ℕ) → Book → (e : ℕ) → List ℕ
+entry_line front units b e =
+    cond (eqb (mark_at b (e / 8)) settled_mark)
+    (cond (member_at units (e % 8)) (front ++ unit_line (e / 8 + 1) (e % 8 + 1) (get_or b.energy e no_grains).0 (get_or b.amounts e past_amounts)) []) []
 
 -- "on the first refusal it prints only `refused=` and the number"
 unfoldable pub refusal_line : ℕ → List ℕ

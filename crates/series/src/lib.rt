@@ -173,13 +173,7 @@ pub fn go_on(
 {
     match stand.refusal {
         Some(refusal) => {
-            refuse_all(
-                calls,
-                answers,
-                stand.next,
-                n,
-                decisions::refusal_number(refusal),
-            );
+            refuse_all(calls, answers, stand.next, n, refusal.number());
             refused_step(stand, n)
         }
         None => go_on_in_range(sheet, calls, text, answers, places, n, stand),

@@ -4,10 +4,9 @@ use Rattle.sheet.specs.declared.Sheet.{Sheet}
 use Rattle.state.specs.declared.Book.{Book}
 use Rattle.postings.specs.declared.Posting.{Posting}
 use Rattle.postings.specs.Journal.{no_posting, covered_by, scanned_to}
-use Rattle.ledger.specs.declared.Decision.{Decision}
 use Rattle.ledger.specs.declared.Outcome.{Outcome}
 use Rattle.ledger.specs.Ledger.{Call}
-use Rattle.ledger.specs.Calls.{request_of, decided_on, journal_after, outcome_of}
+use Rattle.ledger.specs.Calls.{request_of, decided_on, journal_after, outcome_of, Decision}
 
 -- what a scan sees of the first postings, none past the count, the list or 100,000: where each is within its bound, the total of a unit and an item
 abbrev pub scanned_in : List Posting → (count unit item : ℕ) → Option ℤ

@@ -5,12 +5,12 @@ ghost use Rattle.std.specs.Prelude.{◌≡◌, true, ◌&&◌, leb, pos, is_some
 ghost use Rattle.std.specs.Option.{unwrap_or};
 ghost use Rattle.sheet.specs.Ranges.{sheet_holds};
 ghost use Rattle.ledger.specs.Calls.{book_fits};
-ghost use Rattle.ledger.specs.Total.{no_total, total_decided};
+ghost use Rattle.ledger.specs.Total.{total_decided};
 ghost use Rattle.decisions.specs.Calls.{call_of};
 ghost use Rattle.single.specs.Single.{no_rows, refused_call, nine_first, twelve_or9, entries_of, first_at, checked_by, call_outcome, Decides};
 
 use decisions::Call;
-use ledger::{Answer, Outcome, Refusal, TotalAnswer, Verdict};
+use ledger::{Effect, Outcome, Refusal};
 use postings::{ENTRIES, Posting, ROWS};
 use sheet::Sheet;
 use state::Book;
@@ -23,7 +23,7 @@ pub struct CallDecision {
     pub at: usize,
     pub n: usize,
     pub start: u64,
-    pub answer: Answer,
+    pub answer: Result<Effect, Refusal>,
     pub place: u64,
     pub count: u64,
     pub book: Book,
@@ -44,7 +44,7 @@ fn refused_call(book: Book, count: u64, start: u64, refusal: Refusal) -> CallDec
         at: 0,
         n: 0,
         start,
-        answer: Answer::Refused(refusal),
+        answer: Err(refusal),
         place: start,
         count,
         book,
@@ -52,13 +52,12 @@ fn refused_call(book: Book, count: u64, start: u64, refusal: Refusal) -> CallDec
 }
 
 // 9 goes before 12.
-fn twelve_or_9(answer: Answer) -> Refusal
+fn twelve_or_9(answer: Result<Effect, Refusal>) -> Refusal
     ensures { result ≡ twelve_or9 answer }
 {
     match answer {
-        Answer::Accepted => Refusal::BookRange,
-        Answer::Posted(_) => Refusal::BookRange,
-        Answer::Refused(refusal) => nine_first(refusal),
+        Ok(_) => Refusal::BookRange,
+        Err(refusal) => nine_first(refusal),
     }
 }
 
@@ -93,24 +92,22 @@ pub fn outcome_of(d: CallDecision) -> Outcome
 }
 
 // How many entries a call posts: one, or none.
-pub fn entries_of(answer: Answer) -> usize
+pub fn entries_of(answer: Result<Effect, Refusal>) -> usize
     ensures { result ≡ entries_of answer }
 {
     match answer {
-        Answer::Posted(_) => 1,
-        Answer::Accepted => 0,
-        Answer::Refused(_) => 0,
+        Ok(Effect::Posted(_)) => 1,
+        Ok(Effect::Committed) | Err(_) => 0,
     }
 }
 
 // Where the first posting of a call goes: the count, or 0 where it posts none.
-fn first_at(answer: Answer, count: u64) -> usize
+fn first_at(answer: Result<Effect, Refusal>, count: u64) -> usize
     ensures { result ≡ first_at answer count }
 {
     match answer {
-        Answer::Posted(_) => count as usize,
-        Answer::Accepted => 0,
-        Answer::Refused(_) => 0,
+        Ok(Effect::Posted(_)) => count as usize,
+        Ok(Effect::Committed) | Err(_) => 0,
     }
 }
 
@@ -185,15 +182,6 @@ pub fn decide(
     decide_in_range(sheet, book, text, call, count, places)
 }
 
-fn no_total(refusal: Refusal) -> TotalAnswer
-    ensures { result ≡ no_total refusal }
-{
-    TotalAnswer {
-        verdict: Verdict::Refused(refusal),
-        sum: 0,
-    }
-}
-
 fn item_known(item: u64) -> bool
     ensures { result ≡ (leb 1 item && leb item 5) }
 {
@@ -210,25 +198,22 @@ pub fn total_of(
     count: u64,
     places: usize,
     seen: Option<i64>,
-) -> TotalAnswer
+) -> Result<i64, Refusal>
     ensures { result ≡ total_decided sheet book unit item count places (is_some seen) (unwrap_or seen (pos 0)) }
 {
     let good = seen.is_some();
     let sum = seen.unwrap_or(0);
     if !sheet::sheet_holds(sheet) {
-        return no_total(Refusal::SheetRange);
+        return Err(Refusal::SheetRange);
     }
     if !decisions::book_fits(sheet, book, count, places, good) {
-        return no_total(Refusal::BookRange);
+        return Err(Refusal::BookRange);
     }
     if !units::has_unit(sheet.units, unit) {
-        return no_total(Refusal::UnitUnknown);
+        return Err(Refusal::UnitUnknown);
     }
     if !item_known(item) {
-        return no_total(Refusal::UnitUnknown);
+        return Err(Refusal::UnitUnknown);
     }
-    TotalAnswer {
-        verdict: Verdict::Accepted,
-        sum: sum,
-    }
+    Ok(sum)
 }

@@ -12,15 +12,14 @@ use Rattle.blanks.proofs.unit_by.Goals as goal
 pub returns : goal.returns
 returns c =
     let g = c.args in
-    unit_made (line_in g.cells.now) g.j g.monthly _ _ _ _ _ _ _ _ _ _ _
+    unit_made (line_in g.cells.now) g.j g.monthly _ _ _ _ _ _ _ _ _ _
     (c.value_or.ensures ∙ ap (λ (k : ℕ). value_or g.monthly.0 (line_in g.cells.now k)) (sym (add-zero (block_line g.j))))
     c.value_or-2.ensures
     c.value_or-3.ensures
     c.value_or-4.ensures
     c.value_or-5.ensures
-    c.count_at.ensures
+    c.reading_by.ensures
     c.value_or-6.ensures
     c.value_or-7.ensures
-    c.value_or-8.ensures
     c.spans_by.ensures
     c.span_list.ensures

@@ -1,35 +1,29 @@
--- After h turns the lines of the first h are written.
+-- One entry more at a time.
 -- Assumes nothing.
-use Prim.Native.Nat.{ℕ, ◌-◌}
-use Rattle.listing.proofs.Joined.{none_joined, next_joined}
-use Rattle.listing.specs.Listing.{joined}
-use Rattle.state.specs.Sizes.{hours}
-use Rattle.entries.specs.Tables.{hour_commitments, commitment_lines}
-use Rattle.decimal.specs.Output.{output, written}
-use native.Mathlib.Omega.{arith}
-use Prim.Native.Nat.{ℕ, ◌-◌}
+use Prim.Native.Nat.{ℕ, ◌/◌, ◌%◌}
 use mathlib.Core.Path.{◌≡◌, ap, ◌∙◌}
+use native.Mathlib.Omega.{arith}
+use Rattle.decimal.specs.Output.{written}
+use Rattle.decimal.specs.Writer.{held}
+use Rattle.listing.specs.Listing.{joined}
+use Rattle.listing.proofs.Joined.{joined_more}
+use Rattle.entries.specs.Tables.{commitment_line}
+use Rattle.entries.proofs.Commitments.{all_commitments}
 use Rattle.entries.proofs.put_commitments.Goals as goal
 
-pub loop-h-init : goal.loop-h-init
-loop-h-init c = (omega arith, none_joined _ _)
-
-pub overflow_add-h : goal.overflow_add-h
-overflow_add-h c = omega (arith, c.loop-h-test.true)
-
-pub loop-h-smaller : goal.loop-h-smaller
-loop-h-smaller c = omega (arith, c.loop-h-test.true)
-
-pub loop-h-preserved : goal.loop-h-preserved
-loop-h-preserved c =
-    let g = c.args in (
-      omega (arith, c.loop-h-test.true),
-      next_joined c.loop-h.h (hour_commitments g.book) (output g.out.now g.at) (output c.loop-h.out c.loop-h.place) c.loop-h.invariant.1 c.put_hour_commitments-place.ensures,
-    )
+pub loop-e-preserved : goal.loop-e-preserved
+loop-e-preserved c =
+    joined_more c.loop-e.e (λ e. commitment_line c.args.book.now (e / 8) (e % 8)) c.args.out.now c.loop-e.out c.put_commitment.new.out c.loop-e.invariant
+    c.put_commitment.ensures
 
 pub returns : goal.returns
-unfolding commitment_lines
 returns c =
     let g = c.args in
-    let all : c.loop-h.h ≡ hours = omega (arith, c.loop-h-test.false) in
-    c.loop-h.invariant.1 ∙ ap (λ (n : ℕ). written (output g.out.now g.at) (joined n (hour_commitments g.book))) all
+    let all : c.loop-e.e ≡ 192 = omega (arith, c.loop-e-test.false) in
+    let w = c.loop-e.invariant in
+    record {
+      same_buffer = w.same_buffer;
+      bytes_after = w.bytes_after
+          ∙ (ap (λ (n : ℕ). written (held g.out.now) (joined n (λ e. commitment_line g.book.now (e / 8) (e % 8)))) all
+          ∙ ap (written (held g.out.now)) (all_commitments g.book.now));
+    }

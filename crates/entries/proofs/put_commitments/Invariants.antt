@@ -1,14 +1,8 @@
-use Prim.Native.Nat.{◌-◌, ◌≤◌}
+use Prim.Native.Nat.{◌/◌, ◌%◌}
+use Rattle.decimal.specs.Writer.{Wrote}
 use Rattle.listing.specs.Listing.{joined}
-use Rattle.state.specs.Sizes.{hours}
-use Rattle.entries.specs.Tables.{hour_commitments}
-use Rattle.decimal.specs.Output.{output, written}
-use Prim.Native.Nat.{◌-◌, ◌≤◌}
-use mathlib.Core.Path.{◌≡◌}
+use Rattle.entries.specs.Tables.{commitment_line}
 use Rattle.entries.proofs.put_commitments.Given as goal
 
-abbrev pub invariant-loop-h : goal.invariant-loop-h
-invariant-loop-h l = (l.h ≤ hours) × (output l.out l.place ≡ written (output l.initial.out l.at) (joined l.h (hour_commitments l.book)))
-
-abbrev pub decreases-loop-h : goal.decreases-loop-h
-decreases-loop-h l = hours - l.h
+abbrev pub invariant-loop-e : goal.invariant-loop-e
+invariant-loop-e l = Wrote l.fn.out l.out (joined l.e (λ e. commitment_line l.book (e / 8) (e % 8)))

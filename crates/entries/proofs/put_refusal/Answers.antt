@@ -1,41 +1,31 @@
--- The number, and behind one up to 4 the line.
+-- A number above 4 has no line behind it.
 -- Assumes nothing.
-use Rattle.ledger.specs.Numbers.{refusal_number, refusal_line}
-use borrow.Author.Tests.{lt-ltb, le-ltb}
-use Rattle.entries.specs.Entries.{refusal_text}
-use Rattle.text.specs.Bytes.{bytes}
-use Rattle.decimal.proofs.Laws.{then, written_none}
-use Rattle.decimal.specs.Decimal.{digits}
-use Rattle.decimal.specs.Output.{output, written}
-use native.Mathlib.Omega.{arith}
-use Prim.Native.Nat.{ℕ, ◌<◌, ◌≤◌}
-use mathlib.Core.List.{[], ◌++◌}
+use Prim.Native.Nat.{ℕ, ◌<◌}
 use mathlib.Core.Path.{sym, ap, ◌∙◌}
+use mathlib.Core.List.{◌++◌}
+use native.Mathlib.Omega.{arith}
+use borrow.Author.Tests.{lt-ltb}
+use Rattle.text.specs.Bytes.{bytes}
+use Rattle.ledger.specs.Numbers.{refusal_number}
+use Rattle.decimal.specs.Decimal.{digits}
+use Rattle.decimal.specs.Output.{written}
+use Rattle.decimal.specs.Writer.{held}
+use Rattle.decimal.proofs.Laws.{then, written_end}
+use Rattle.entries.specs.Entries.{refusal_text}
 use Rattle.entries.proofs.put_refusal.Goals as goal
 
-pub returns-then-number-gt4 : goal.returns-then-number-gt4
+pub returns-else-number-le4 : goal.returns-else-number-le4
 unfolding refusal_text
-returns-then-number-gt4 c =
+returns-else-number-le4 c =
     let g = c.args in
-    let o = output g.out.now g.at in
-    let o1 = output c.put_bytes-a.new.out c.put_bytes-a.result in
-    let o2 = output c.put_number-b.new.out c.put_number-b.result in
-    let h : 4 < refusal_number g.refusal = omega (arith, c.if-number-gt4.true, c.refusal_number-number.ensures) in
-    simp (lt-ltb _ _ h) (then o o2 (bytes "refused=" ++ digits (refusal_number g.refusal)) []
-    (then o o1 (bytes "refused=") (digits (refusal_number g.refusal)) c.put_bytes-a.ensures
-    (c.put_number-b.ensures ∙ ap (λ (n : ℕ). written o1 (digits n)) c.refusal_number-number.ensures))
-    (sym (written_none o2)))
-
-pub returns : goal.returns
-unfolding refusal_text
-returns c =
-    let g = c.args in
-    let o = output g.out.now g.at in
-    let o1 = output c.put_bytes-a.new.out c.put_bytes-a.result in
-    let o2 = output c.put_number-b.new.out c.put_number-b.result in
-    let o3 = output c.put_bytes-c.new.out c.put_bytes-c.result in
-    let h : refusal_number g.refusal ≤ 4 = omega (arith, c.if-number-gt4.false, c.refusal_number-number.ensures) in
-    simp (le-ltb _ _ h) (then o o2 (bytes "refused=" ++ digits (refusal_number g.refusal)) (bytes " line=" ++ digits (refusal_line g.refusal))
-    (then o o1 (bytes "refused=") (digits (refusal_number g.refusal)) c.put_bytes-a.ensures
-    (c.put_number-b.ensures ∙ ap (λ (n : ℕ). written o1 (digits n)) c.refusal_number-number.ensures))
-    (then o2 o3 (bytes " line=") (digits (refusal_line g.refusal)) c.put_bytes-c.ensures (c.put_number.ensures ∙ ap (λ (n : ℕ). written o3 (digits n)) c.refusal_line.ensures)))
+    let o = held g.out.now in
+    let o1 = held c.put_bytes.new.self in
+    let n = refusal_number g.refusal in
+    let first = c.put_bytes.ensures.result_after in
+    let second = c.put_number.ensures.result_after in
+    let h : 4 < n = omega (arith, c.if-number-le4.false, c.number-number.ensures) in record {
+      same_buffer = second.same_buffer ∙ first.same_buffer;
+      bytes_after = simp (lt-ltb _ _ h)
+          (then o o1 (bytes "refused=") (digits n) first.bytes_after (second.bytes_after ∙ ap (λ (k : ℕ). written o1 (digits k)) c.number-number.ensures)
+          ∙ sym (written_end o (bytes "refused=" ++ digits n)));
+    }

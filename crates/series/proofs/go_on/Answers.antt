@@ -10,4 +10,4 @@ returns-in-Some c =
     let a = c.args in
     rw c.refused_step.ensures
     (refused_goes _ _ _ _ _ _ a.stand c.requires _ c.in-Some.refusal c.in-Some.is
-    (c.refuse_all.ensures ∙ ap (λ (n : ℕ). refused_from a.calls.now n a.answers.now a.stand.next (a.n - a.stand.next)) c.refusal_number.ensures))
+    (c.refuse_all.ensures ∙ ap (λ (n : ℕ). refused_from a.calls.now n a.answers.now a.stand.next (a.n - a.stand.next)) c.number.ensures))
