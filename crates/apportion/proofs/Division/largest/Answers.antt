@@ -5,8 +5,8 @@ use Rattle.apportion.specs.Shares.{remainder_left, largest, quotient, remainder}
 use native.Mathlib.Omega.{arith}
 use Prim.Native.Nat.{ℕ}
 use mathlib.Core.Path.{ap, sym, ◌∙◌}
-use Rattle.apportion.proofs.largest.Goals.{then-most-x, else-most-x}
-use Rattle.apportion.proofs.largest.Goals as goal
+use Rattle.apportion.proofs.Division.largest.Goals.{then-most-x, else-most-x}
+use Rattle.apportion.proofs.Division.largest.Goals as goal
 
 pub loop-i-init : goal.loop-i-init
 loop-i-init c = (sym (largest_one _ _ _), c.remainder_left-most.ensures)
@@ -14,7 +14,7 @@ loop-i-init c = (sym (largest_one _ _ _), c.remainder_left-most.ensures)
 pub loop-i-preserved : goal.loop-i-preserved
 loop-i-preserved c =
     let g = c.args in
-    let d = g.d.now in
+    let d = g.self.now in
     let q = quotient d.all d.total d.weights.now in
     let r = remainder d.all d.total d.weights.now in
     let l = c.loop-i in
@@ -32,5 +32,5 @@ loop-i-preserved c =
 
 pub returns : goal.returns
 returns c =
-    let d = c.args.d.now in
+    let d = c.args.self.now in
     c.loop-i.invariant.0 ∙ ap (λ (n : ℕ). largest (quotient d.all d.total d.weights.now) (remainder d.all d.total d.weights.now) c.args.shares.now n) (omega arith)

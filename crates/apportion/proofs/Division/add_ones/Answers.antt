@@ -9,17 +9,17 @@ use native.Mathlib.Omega.{arith}
 use Prim.Native.Nat.{ℕ, ◌≤◌, ◌<◌, ◌+◌}
 use mathlib.Core.List.{List}
 use mathlib.Core.Path.{◌≡◌, refl, ap, sym, subst, ◌∙◌}
-use Rattle.apportion.proofs.add_ones.Goals.{After-largest-part}
-use Rattle.apportion.proofs.add_ones.Goals as goal
+use Rattle.apportion.proofs.Division.add_ones.Goals.{After-largest-part}
+use Rattle.apportion.proofs.Division.add_ones.Goals as goal
 
 -- the part is there, and its share stays within the total
 here : (c : After-largest-part) →
-    let d = c.args.d.now in
+    let d = c.args.self.now in
     let b = c.largest-part.result in
     (b < length d.weights.now) × (get_or c.loop-added.shares b 0 + 1 ≤ d.total)
 here c =
     let g = c.args in
-    let d = g.d.now in
+    let d = g.self.now in
     let l = c.loop-added in
     let w = d.weights.now in
     let q = quotient d.all d.total w in
@@ -50,7 +50,7 @@ bounds-shares-part-in-loop-added c = omega (arith, here (goal.at.bounds-shares-p
 pub loop-added-preserved : goal.loop-added-preserved
 loop-added-preserved c =
     let g = c.args in
-    let d = g.d.now in
+    let d = g.self.now in
     let l = c.loop-added in
     let w = d.weights.now in
     let q = quotient d.all d.total w in
@@ -64,7 +64,7 @@ loop-added-preserved c =
 pub returns : goal.returns
 returns c =
     let g = c.args in
-    let d = g.d.now in
+    let d = g.self.now in
     let w = d.weights.now in
     let e : c.loop-added._added ≡ g.rest = omega arith in
     c.loop-added.invariant.1 ∙ ap (λ (k : ℕ). add_ones (quotient d.all d.total w) (remainder d.all d.total w) (length w) k g.shares.now) e
