@@ -6,7 +6,7 @@ use Prim.Native.Nat.{ℕ}
 use Rattle.sheet.specs.declared.Sheet.{Sheet}
 use Rattle.postings.specs.declared.Posting.{Posting}
 use Rattle.ledger.specs.declared.Outcome.{Outcome}
-use Rattle.ledger.specs.declared.TotalAnswer.{TotalAnswer}
+use Rattle.ledger.specs.Answers.{TotalAnswer}
 use Rattle.ledger.specs.Total.{total_on}
 use Rattle.ledger.specs.Requests.{call_for}
 use Rattle.single.specs.Journal.{Performed, performed}

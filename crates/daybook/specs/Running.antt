@@ -4,7 +4,7 @@ use Rattle.sheet.specs.declared.Sheet.{Sheet}
 use Rattle.state.specs.Book.{empty_book}
 use Rattle.postings.specs.declared.Posting.{Posting}
 use Rattle.ledger.specs.declared.Outcome.{Outcome}
-use Rattle.ledger.specs.declared.TotalAnswer.{TotalAnswer}
+use Rattle.ledger.specs.Answers.{TotalAnswer}
 use Rattle.ledger.specs.Requests.{call_for}
 use Rattle.single.specs.Journal.{Performed, performed}
 use Rattle.decimal.specs.Output.{Output, output, written}

@@ -6,7 +6,7 @@ use Rattle.state.specs.declared.Book.{Book}
 use Rattle.postings.specs.declared.Posting.{Posting}
 use Rattle.postings.specs.Journal.{no_posting}
 use Rattle.ledger.specs.declared.Outcome.{Outcome}
-use Rattle.ledger.specs.declared.TotalAnswer.{TotalAnswer}
+use Rattle.ledger.specs.Answers.{TotalAnswer}
 use Rattle.ledger.specs.Total.{total_on}
 use Rattle.single.specs.Journal.{Performed}
 use Rattle.asks.specs.declared.Asking.{Asking}
@@ -33,7 +33,7 @@ first_tables listed units b = cond (eqb listed 0) (tables units b) []
 unfoldable pub turn_text : List ℕ → (units at listed : ℕ) → Asking → Outcome → TotalAnswer → List ℕ
 turn_text text units at listed a o t =
     cond (ltb at (length text)) (entry_line text at a.kind o.answer t)
-    (first_tables listed units o.book ++ total_line a.unit a.item t.verdict t.sum)
+    (first_tables listed units o.book ++ total_line a.unit a.item t)
 
 -- the total of what a call left
 abbrev pub total_after : Sheet → Asking → Performed → TotalAnswer

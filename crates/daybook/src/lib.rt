@@ -9,7 +9,7 @@ ghost use Rattle.daybook.specs.Running.{told_to, turned, ran_all, started as sta
 ghost use Rattle.daybook.specs.Replay.{turns_of, call_lines, replayed};
 
 use asks::{Asking, Extent};
-use ledger::{Outcome, TotalAnswer};
+use ledger::{Outcome, Refusal};
 use lines::ReadAnswer;
 use postings::Posting;
 use sheet::Sheet;
@@ -83,7 +83,7 @@ fn put_turn(
     stand: Stand,
     asking: Asking,
     o: Outcome,
-    t: TotalAnswer,
+    t: Result<i64, Refusal>,
 ) -> usize
     ensures { output out.new result ≡ written (output out.old at) (turn_text text.now units stand.at stand.listed asking o t) }
 {
@@ -105,7 +105,7 @@ fn told(
     stand: Stand,
     asking: Asking,
     o: Outcome,
-    t: TotalAnswer,
+    t: Result<i64, Refusal>,
 ) -> Stand
     ensures { record { out = out.exit.now; stand = result } ≡ told_to out.entry.now text.now sheet stand asking o t }
 {

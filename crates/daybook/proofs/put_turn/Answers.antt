@@ -18,5 +18,5 @@ returns c =
     let o = output g.out.now g.at in
     let o1 = output c.put_first_tables-a.new.out c.put_first_tables-a.result in
     simp (le-ltb _ _ c.if-from-text.false)
-    (then o o1 (first_tables g.stand.listed g.units g.o.book) (total_line g.asking.unit g.asking.item g.t.verdict g.t.sum) c.put_first_tables-a.ensures
+    (then o o1 (first_tables g.stand.listed g.units g.o.book) (total_line g.asking.unit g.asking.item g.t) c.put_first_tables-a.ensures
     c.put_listed.ensures)
