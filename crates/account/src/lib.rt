@@ -2,19 +2,21 @@
 // come, over a journal of 2,000 places.
 #![tactic(auto)]
 
-ghost use Rattle.std.specs.Prelude.{◌≡◌, true, ◌-◌, ◌≤◌};
+ghost use Rattle.std.specs.Prelude.{◌≡◌, true, ◌+◌, ◌-◌, ◌≤◌};
 ghost use Rattle.sheet.specs.Ranges.{sheet_holds};
 ghost use Rattle.ledger.specs.Requests.{none_asked};
-ghost use Rattle.decimal.specs.Output.{output, written, filled};
+ghost use Rattle.decimal.specs.Output.{output, filled};
+ghost use Rattle.decimal.specs.Writer.{Wrote};
 ghost use Rattle.listing.specs.Listing.{most_bytes};
 ghost use Rattle.account.specs.Day.{take_row, take_of, settle_of, next_at, none_due, due_at, answered_by, day_with, day_from};
 ghost use Rattle.account.specs.Statement.{day_lines, statement_of};
 
+use decimal::Writer;
 use ledger::{Asked, Effect, Refusal};
 use lines::ReadAnswer;
 use sheet::Sheet;
 use state::Book;
-use text::{Line, Row};
+use text::{Line, Row, TextFault};
 
 // What comes at a place of the text: its end, a line that is refused with a number, or a call with the place after its line.
 #[derive(Clone, Copy)]
@@ -51,8 +53,8 @@ fn take_row() -> Row
     Row {
         key: *b"take======",
         word: *b"==========",
-        blank: 0,
-        order: 0,
+        blank: false,
+        order: false,
         parts: 3,
         most: 3,
         low: [0, 0, 0, 0],
@@ -76,26 +78,25 @@ fn no_call() -> Asked
 }
 
 // The take of a line's numbers.
-fn take_of(line: Line, after: usize) -> Next
+fn take_of(line: Result<Line, TextFault>, after: usize) -> Next
     ensures { result ≡ take_of line after }
 {
-    if line.code == 0 {
-        let number = line.number;
-        return Next::Asks(
+    match line {
+        Ok(line) => Next::Asks(
             Asked {
                 kind: 1,
-                hour: number[0],
-                unit: number[1],
+                hour: line.number[0],
+                unit: line.number[1],
                 to: 0,
-                kwh: number[2],
+                kwh: line.number[2],
                 begin: 0,
                 end: 0,
                 start: 0,
             },
             after,
-        );
+        ),
+        Err(fault) => Next::Bad(fault.number()),
     }
-    Next::Bad(line.code)
 }
 
 // The settle of the record that begins at a place.
@@ -130,8 +131,7 @@ fn next_at(text: &[u8], at: usize) -> Next
     }
     let line = &text[at..e];
     if text::key_is(line, *b"take======") {
-        let l = values::read_value(text::value_of(line), take_row());
-        return take_of(l, e + 1);
+        return take_of(values::read_value(text::value_of(line), take_row()), e + 1);
     }
     if text::key_is(line, *b"hour======") {
         return settle_at(text, at);
@@ -251,32 +251,48 @@ fn day_of(sheet: Sheet, text: &[u8], at: usize) -> Day
 }
 
 // What is printed of a day.
-fn put_day(out: &mut [u8], units: u64, day: Day) -> usize
-    ensures result_after { output out.new result ≡ written (output out.old 0) (day_lines units day) }
-    ensures upper_bound { result ≤ most_bytes }
+#[tactic(auto, unfolding(crate::specs::Statement::day_lines))]
+fn put_day(out: &mut Writer, units: u64, day: &Day)
+    ensures result_after { Wrote out.old out.new (day_lines units day.now) }
+    ensures upper_bound { out.new.place ≤ out.old.place + most_bytes }
 {
-    let book = day.book;
     if day.refusal == 0 {
-        return listing::put_settled(out, 0, units, book);
+        listing::put_settled(out, units, &day.book);
+    } else {
+        listing::put_refusal(out, day.refusal);
     }
-    listing::put_refusal(out, 0, day.refusal)
 }
 
-// The statement of a day's text, written from the start of the buffer on as far as it has room; gives how many bytes are written. A buffer
-// of 32,256 bytes has room for every statement.
-pub fn statement_of(text: &[u8], out: &mut [u8]) -> usize
-    ensures result_after { output out.new result ≡ filled out.old (statement_of text.now) }
-    ensures upper_bound { result ≤ most_bytes }
+// What is printed of a day's text.
+fn put_statement(out: &mut Writer, text: &[u8])
+    ensures result_after { Wrote out.old out.new (statement_of text.now) }
+    ensures upper_bound { out.new.place ≤ out.old.place + most_bytes }
 {
     let read = sheet_text::read_sheet(text, 0);
     let answer = read.answer;
     let sheet = read.sheet;
     match answer {
         ReadAnswer::Read(place) => {
-            put_day(out, sheet.units, day_of(sheet, text, place as usize))
+            let day = day_of(sheet, text, place as usize);
+            put_day(out, sheet.units, &day);
         }
         ReadAnswer::Refused(refusal) => {
-            listing::put_refusal(out, 0, lines::text_number(refusal))
+            listing::put_refusal(out, refusal.number());
         }
     }
+}
+
+// The statement of a day's text, written from the start of the buffer on as far as it has room; gives how many bytes are written. A buffer
+// of 32,256 bytes has room for every statement.
+#[tactic(auto, using(decimal::proofs::Filled::written_filled))]
+pub fn statement_of(text: &[u8], out: &mut [u8]) -> usize
+    ensures result_after { output out.new result ≡ filled out.old (statement_of text.now) }
+    ensures upper_bound { result ≤ most_bytes }
+{
+    let mut writer = Writer {
+        buffer: out,
+        place: 0,
+    };
+    put_statement(&mut writer, text);
+    writer.place
 }

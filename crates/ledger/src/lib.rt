@@ -60,7 +60,7 @@ impl Refusal {
         ensures { result ≡ refusal_number self }
     {
         match self {
-            Refusal::Text(t) => lines::text_number(t),
+            Refusal::Text(t) => t.number(),
             Refusal::SheetRange => 9,
             Refusal::HourRange => 10,
             Refusal::UnitUnknown => 11,
@@ -84,7 +84,7 @@ impl Refusal {
         ensures { result ≡ refusal_line self }
     {
         match self {
-            Refusal::Text(t) => lines::text_line(t),
+            Refusal::Text(t) => t.line,
             _ => 0,
         }
     }
