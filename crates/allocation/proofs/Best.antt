@@ -1,7 +1,7 @@
 -- What `best` picks: a unit with room whose next grain is cheaper than that of each lower unit with room, and no dearer than that of
 -- any. There is at most one such unit, so prices that agree on the units with room give the same pick.
 -- Assumes nothing.
-use mathlib.Core.Path.{◌≡◌, refl, sym, ◌∙◌, ap}
+use mathlib.Core.Path.{◌≡◌, refl, sym, subst, ◌∙◌, ap}
 use mathlib.Core.Bool.{Bool, true, false, true≢false, cond}
 use Prim.Native.Nat.{ℕ, zero, suc, ◌≤◌, ◌<◌}
 use native.Mathlib.Nat.{not-suc-le-zero}
@@ -81,6 +81,9 @@ module _ (next : ℕ → ℕ) (room : ℕ → Bool) where
 
   pub best_only : (n : ℕ) (q : Option ℕ) → Picked next room n q → best next room n ≡ q
   best_only n q h = one_best n _ q (best_is n) h
+
+  pub best_below : (n u : ℕ) → best next room n ≡ at u → u < n
+  best_below n u e = let b : Best next room n u = subst (Picked next room n) e (best_is n) in b.known
 
 -- prices that agree on the units with room
 pub best_same : (next next' : ℕ → ℕ) (room : ℕ → Bool) (n : ℕ) → ((u : ℕ) → u < n → room u ≡ true → next u ≡ next' u)

@@ -1,7 +1,7 @@
 // The plant's net hub energy allocated to its units: ceilings, and the fill by rising price.
 #![tactic(auto)]
 
-ghost use Rattle.std.specs.Prelude.{◌≡◌, true, cond, Option, ℕ, ◌+◌, ◌≤◌, ◌<◌, eqb, ltb, length, get_or};
+ghost use Rattle.std.specs.Prelude.{◌≡◌, true, cond, Option, Some, ℕ, ◌+◌, ◌≤◌, ◌<◌, eqb, ltb, length, get_or};
 ghost use Rattle.finite.specs.Finite.{sum, tabulate};
 ghost use Rattle.energy.specs.Energy.{hub_of};
 ghost use Rattle.units.specs.Units.{member_at};
@@ -155,7 +155,8 @@ fn better_of(found: Option<(usize, u64)>, v: usize, price: u64) -> Option<(usize
 
 // The unit with room whose next block is cheapest, the lowest at equal price.
 fn cheapest(energies: [HubGrains; 8], ceilings: [HubGrains; 8], blocks: [Block; 8]) -> Option<usize>
-    ensures { result ≡ best (block_price blocks) (λ (u : ℕ). ltb (grains_at energies u) (grains_at ceilings u)) 8 }
+    ensures picked { result ≡ best (block_price blocks) (λ (u : ℕ). ltb (grains_at energies u) (grains_at ceilings u)) 8 }
+    ensures below { (u : ℕ) → result ≡ Some u → u < 8 }
 {
     let mut found = None;
     for v in 0..8 {
@@ -180,19 +181,13 @@ fn fill(
     let mut blocks = first_blocks(offers, commitments, ceilings);
     let mut left = total;
     while left > HubGrains(0) {
-        let found = cheapest(energies, ceilings, blocks);
-        let Some(u) = found else {
+        let Some(u) = cheapest(energies, ceilings, blocks) else {
             return energies;
         };
-        let has = energies[u];
-        let block = blocks[u];
-        let more = block.end.above(has).min(left);
-        let grains = has.plus(more);
-        let offer = offers[u];
-        let commitment = commitments[u];
-        let limit = ceilings[u];
+        let more = blocks[u].end.above(energies[u]).min(left);
+        let grains = energies[u].plus(more);
         energies[u] = grains;
-        blocks[u] = next_block(offer, commitment, grains, limit);
+        blocks[u] = next_block(offers[u], commitments[u], grains, ceilings[u]);
         left = left.above(more);
     }
     energies

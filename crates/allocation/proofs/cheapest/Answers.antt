@@ -1,5 +1,6 @@
 -- The loop's invariant: `found` is the best of the units passed, with the price of its next block.
 -- Assumes nothing.
+use Rattle.std.proofs.Common.{rules}
 use mathlib.Core.Path.{◌≡◌, refl, sym, ◌∙◌, ap}
 use mathlib.Core.Bool.{Bool, true, false}
 use Prim.Native.Nat.{ℕ}
@@ -7,6 +8,7 @@ use lib.Dec.{ltb}
 use Rattle.energy.proofs.Order.{lt_ltb}
 use Rattle.allocation.specs.Fill.{grains_at, best}
 use Rattle.allocation.specs.Blocks.{block_price, priced}
+use Rattle.allocation.proofs.Best.{best_below}
 use Rattle.allocation.proofs.Rounds.{best_free, best_full}
 use Rattle.allocation.proofs.cheapest.Goals.{then-lt, else-lt}
 use Rattle.allocation.proofs.cheapest.Goals as goal
@@ -28,3 +30,11 @@ loop-v-preserved c =
       | else-lt w ↦ let full : room l.v ≡ false = sym test ∙ w.if-lt.false in
           w.found-is ∙ (l.invariant ∙ ap (priced next) (best_full next room l.v full))
     ]
+
+pub returns-clause-below : goal.returns-clause-below
+returns-clause-below c =
+    let a = c.args in
+    let next = block_price a.blocks in
+    let room : ℕ → Bool = λ u. ltb (grains_at a.energies u) (grains_at a.ceilings u) in
+    let picked : c.map.result ≡ best next room 8 = search rules in
+    λ u e. best_below next room 8 u (sym picked ∙ e)

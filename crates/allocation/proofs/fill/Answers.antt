@@ -25,7 +25,7 @@ pick-here c =
     let a = c.args in
     let l = c.loop-offers in
     sym (same_pick a.offers a.commitments a.ceilings l.energies l.blocks l.invariant.4)
-    ∙ (sym c.cheapest-found.ensures ∙ c.in-Some.is)
+    ∙ (sym c.cheapest.ensures.picked ∙ c.in-Some.is)
 
 known-here : (c : In-Some) →
     let a = c.args in
@@ -77,65 +77,23 @@ returns-in_default c =
     let p = prices_of a.offers a.commitments in
     let q =
     sym (same_pick a.offers a.commitments a.ceilings l.energies l.blocks l.invariant.4)
-    ∙ (sym c.cheapest-found.ensures ∙ c.in_default.is) in
+    ∙ (sym c.cheapest.ensures.picked ∙ c.in_default.is) in
     further p (grains_at a.ceilings) (a.total.0 - l.left.0) l.left.0 a.total.0 (replicate 8 (record { 0 = 0 })) l.energies l.energies
     (omega (arith, l.invariant.0)) l.invariant.3 (place_none p (grains_at a.ceilings) 8 l.energies q l.left.0)
-
-pub offset_bounds-energies-u : goal.offset_bounds-energies-u
-offset_bounds-energies-u c = let k = known-here c in omega (arith, k.0)
-
-pub bounds-energies-u : goal.bounds-energies-u
-bounds-energies-u c = let k = known-here c in omega (arith, k.0)
-
-pub offset_bounds-blocks-u : goal.offset_bounds-blocks-u
-offset_bounds-blocks-u c = let k = known-here (goal.at.offset_bounds-blocks-u c).In-Some in omega (arith, k.0)
-
-pub bounds-blocks-u : goal.bounds-blocks-u
-bounds-blocks-u c = let k = known-here (goal.at.bounds-blocks-u c).In-Some in omega (arith, k.0)
 
 pub plus-grains-requires : goal.plus-grains-requires
 plus-grains-requires c =
     let a = c.args in
     let l = c.loop-offers in
     let u = c.in-Some.u in
-    let m = more-here c (known-here (goal.at.plus-grains-requires c).In-Some) in
+    let m = more-here (goal.at.plus-grains-requires c).After-min-more (known-here (goal.at.plus-grains-requires c).In-Some) in
     let has = none_over (prices_of a.offers a.commitments) (grains_at a.ceilings) 8 (a.total.0 - l.left.0) l.energies u (known-here (goal.at.plus-grains-requires c).In-Some).0 l.invariant.3 in
     omega (arith, has, m.1, l.invariant.0, c.well_formed.1.1.1.0)
-
-pub offset_bounds-offers-u : goal.offset_bounds-offers-u
-offset_bounds-offers-u c = let k = known-here (goal.at.offset_bounds-offers-u c).In-Some in omega (arith, k.0)
-
-pub bounds-offers-u : goal.bounds-offers-u
-bounds-offers-u c = let k = known-here (goal.at.bounds-offers-u c).In-Some in omega (arith, k.0)
-
-pub offset_bounds-commitments-u : goal.offset_bounds-commitments-u
-offset_bounds-commitments-u c = let k = known-here (goal.at.offset_bounds-commitments-u c).In-Some in omega (arith, k.0)
-
-pub bounds-commitments-u : goal.bounds-commitments-u
-bounds-commitments-u c = let k = known-here (goal.at.bounds-commitments-u c).In-Some in omega (arith, k.0)
-
-pub offset_bounds-ceilings-u : goal.offset_bounds-ceilings-u
-offset_bounds-ceilings-u c = let k = known-here (goal.at.offset_bounds-ceilings-u c).In-Some in omega (arith, k.0)
-
-pub bounds-ceilings-u : goal.bounds-ceilings-u
-bounds-ceilings-u c = let k = known-here (goal.at.bounds-ceilings-u c).In-Some in omega (arith, k.0)
-
-pub offset_bounds-energies-u-in-loop-offers : goal.offset_bounds-energies-u-in-loop-offers
-offset_bounds-energies-u-in-loop-offers c = let k = known-here (goal.at.offset_bounds-energies-u-in-loop-offers c).In-Some in omega (arith, k.0)
-
-pub bounds-energies-u-in-loop-offers : goal.bounds-energies-u-in-loop-offers
-bounds-energies-u-in-loop-offers c = let k = known-here (goal.at.bounds-energies-u-in-loop-offers c).In-Some in omega (arith, k.0)
 
 pub next_block-requires : goal.next_block-requires
 next_block-requires c =
     let k = known-here (goal.at.next_block-requires c).In-Some in
     λ l. c.requires c.in-Some.u k.0 (omega (arith, k.1))
-
-pub offset_bounds-blocks-u-in-loop-offers : goal.offset_bounds-blocks-u-in-loop-offers
-offset_bounds-blocks-u-in-loop-offers c = let k = known-here (goal.at.offset_bounds-blocks-u-in-loop-offers c).In-Some in omega (arith, k.0)
-
-pub bounds-blocks-u-in-loop-offers : goal.bounds-blocks-u-in-loop-offers
-bounds-blocks-u-in-loop-offers c = let k = known-here (goal.at.bounds-blocks-u-in-loop-offers c).In-Some in omega (arith, k.0)
 
 pub loop-offers-smaller : goal.loop-offers-smaller
 loop-offers-smaller c =
