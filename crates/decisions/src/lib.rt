@@ -9,7 +9,7 @@ ghost use Rattle.ledger.specs.Calls.{verdict, bad_hour, unknown_units, short_of,
 ghost use Rattle.ledger.specs.Numbers.{number_of, line_of, posted_of};
 ghost use Rattle.ledger.specs.Requests.{part_of, asked_at};
 ghost use Rattle.decisions.specs.Calls.{commitment_call, record_call, decoded, call_start};
-ghost use Rattle.decisions.specs.Changes.{hour_index, entry_index, take_change, release_change, move_change, change_of, change_tests};
+ghost use Rattle.decisions.specs.Changes.{hour_index, entry_index, change_of, change_tests};
 ghost use Rattle.decisions.specs.Hours.{void_decided, standing_row, record_decided};
 
 use energy::{Energy, HubKwh};
@@ -69,13 +69,12 @@ pub struct CommitmentChange {
     pub moves: bool,
 }
 
-// What an accepted settle, restate or void comes to: its hour and the text place, and the hour's mark, energies and amounts after it.
+// What an accepted settle, restate or void comes to: its hour and the text place, and whether the hour is settled, its energies and amounts after it.
 #[derive(Clone, Copy)]
 pub struct HourChange {
     pub hour: u64,
     pub place: u64,
-    // 1 settled, 0 open: the number that the book has for C
-    pub mark: u64,
+    pub settled: bool,
     pub result: HourResult,
 }
 
@@ -140,7 +139,7 @@ pub fn decode(asked: Asked) -> Call
     }
 }
 
-// Where a call's record starts in its part of the text, 0 without one.
+// The text place of a call that is refused: where its record starts in its part of the text, 0 without one.
 pub fn start_of(call: Call) -> u64
     ensures { result ≡ call_start call }
 {
@@ -150,55 +149,25 @@ pub fn start_of(call: Call) -> u64
     }
 }
 
-fn take_change(hour: u64, unit: u64, kwh: u64) -> CommitmentChange
-    ensures { result ≡ take_change hour unit kwh }
-{
-    CommitmentChange {
-        hour,
-        from: unit,
-        to: unit,
-        out: HubKwh(0),
-        into: HubKwh(kwh),
-        moves: false,
-    }
-}
-
-fn release_change(hour: u64, unit: u64, kwh: u64) -> CommitmentChange
-    ensures { result ≡ release_change hour unit kwh }
-{
-    CommitmentChange {
-        hour,
-        from: unit,
-        to: unit,
-        out: HubKwh(kwh),
-        into: HubKwh(0),
-        moves: false,
-    }
-}
-
-fn move_change(hour: u64, from: u64, to: u64, kwh: u64) -> CommitmentChange
-    ensures { result ≡ move_change hour from to kwh }
-{
-    CommitmentChange {
-        hour,
-        from,
-        to,
-        out: HubKwh(kwh),
-        into: HubKwh(kwh),
-        moves: true,
-    }
-}
-
 // What a take, release or move gives and gets.
 impl From<CommitmentCall> for CommitmentChange {
     #[tactic(auto, unfolding(crate::specs::Changes::change_of))]
     fn from(call: CommitmentCall) -> CommitmentChange
         ensures { result ≡ change_of call }
     {
-        match call.kind {
-            CommitmentKind::Take => take_change(call.hour, call.unit, call.kwh),
-            CommitmentKind::Release => release_change(call.hour, call.unit, call.kwh),
-            CommitmentKind::Move => move_change(call.hour, call.unit, call.to, call.kwh),
+        let kwh = HubKwh(call.kwh);
+        let (from, to, out, into, moves) = match call.kind {
+            CommitmentKind::Take => (call.unit, call.unit, HubKwh(0), kwh, false),
+            CommitmentKind::Release => (call.unit, call.unit, kwh, HubKwh(0), false),
+            CommitmentKind::Move => (call.unit, call.to, kwh, kwh, true),
+        };
+        CommitmentChange {
+            hour: call.hour,
+            from,
+            to,
+            out,
+            into,
+            moves,
         }
     }
 }
@@ -243,19 +212,13 @@ pub fn hour_index(hour: u64) -> usize
     (hour - 1) as usize
 }
 
-fn no_unit(unit: u64) -> bool
-    ensures { result ≡ (ltb unit 1 || ltb 8 unit) }
-{
-    unit < 1 || 8 < unit
-}
-
 // Where a unit stands in an hour of the book, 0 for one that is none.
 #[tactic(auto, using(ledger::proofs::Passed::hour_in, ledger::proofs::Passed::unit_in), unfolding(crate::specs::Changes::entry_index))]
 pub fn entry_index(hour: u64, unit: u64) -> usize
     ensures value { result ≡ entry_index hour unit }
     ensures upper_bound { result < 192 }
 {
-    if hour_bad(hour) || no_unit(unit) {
+    if hour_bad(hour) || unit < 1 || 8 < unit {
         return 0;
     }
     (8 * (hour - 1) + (unit - 1)) as usize
@@ -335,7 +298,7 @@ pub fn decide_void(
     Ok(HourChange {
         hour,
         place: 0,
-        mark: 0,
+        settled: false,
         result: state::no_result(),
     })
 }
@@ -392,7 +355,7 @@ fn decide_read(
     Ok(HourChange {
         hour: read.hour,
         place,
-        mark: 1,
+        settled: true,
         result: settlement::settle_hour(day, read, held),
     })
 }

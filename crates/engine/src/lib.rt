@@ -56,7 +56,7 @@ fn store_hour(
     numbers::differ(rows, numbers::HOUR_ITEMS * entry, amounts, h, new);
     numbers::store_amounts(amounts, h, units, new);
     numbers::store_energies(energy, h, units, grains);
-    mark[h] = d.mark;
+    mark[h] = d.settled as u64;
     Done {
         answer: Ok(Effect::Posted(5 * units::unit_count(units))),
         place: d.place,
@@ -118,7 +118,11 @@ pub fn carry_out(
     match call {
         Call::Commitment(c) => {
             let change = CommitmentChange::from(c);
-            changed(commitments::change(commitment, mark, offers, units, change))
+            Done {
+                answer: commitments::change(commitment, mark, offers, units, change),
+                place: 0,
+                hour: 0,
+            }
         }
         Call::Record(c) => {
             let part = decisions::part_of(text, c.begin, c.end);
@@ -132,16 +136,5 @@ pub fn carry_out(
             let decided = decisions::decide_void(units, hour, mark[h] == 1, count, places);
             store_hour(mark, energy, amounts, rows, entry, units, h, decided, 0)
         }
-    }
-}
-
-// The answer of a take, release or move: it posts nothing.
-fn changed(answer: Result<Effect, Refusal>) -> Done
-    ensures { result ≡ record { answer = answer; place = 0; hour = 0 } }
-{
-    Done {
-        answer,
-        place: 0,
-        hour: 0,
     }
 }
