@@ -15,8 +15,8 @@ use energy::{Energy, GrossKwh, HubGrains, HubKwh, NetKwh};
 use offer::{Block, Offer};
 use std::array;
 
-// What an hour's allocation rests on: places 0 to 7 stand for units 1 to 8, and bit k of `units` says whether the plant has the
-// unit at place k. Values at the other places are not looked at.
+// What an hour's allocation rests on: places 0 to 7 stand for units 1 to 8, and bit k of `units` says whether the
+// plant has the unit at place k. Values at the other places are not looked at.
 #[derive(Clone, Copy)]
 pub struct Plant {
     pub loss: u64,

@@ -1,5 +1,6 @@
-// The plant's energies and what is paid for them. Gross, net-at-gate and hub energies are types of their own: each is added, subtracted and
-// compared with its own kind only, and the conversions from one kind to another stand here alone.
+// The plant's energies and what is paid for them. Gross, net-at-gate and hub energies are types of their own: each is
+// added, subtracted and compared with its own kind only, and the conversions from one kind to another stand here
+// alone.
 #![tactic(auto)]
 
 ghost use Rattle.std.specs.Prelude.{◌≡◌, ℕ, ◌+◌, ◌*◌, ◌-◌, ◌/◌, ◌^◌, ◌≤◌, ◌<◌};
