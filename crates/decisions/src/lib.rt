@@ -74,6 +74,7 @@ pub struct CommitmentChange {
 pub struct HourChange {
     pub hour: u64,
     pub place: u64,
+    // 1 settled, 0 open: the number that the book has for C
     pub mark: u64,
     pub result: HourResult,
 }
@@ -189,14 +190,32 @@ fn move_change(hour: u64, from: u64, to: u64, kwh: u64) -> CommitmentChange
 }
 
 // What a take, release or move gives and gets.
-#[tactic(auto, unfolding(crate::specs::Changes::change_of))]
-pub fn change_of(call: CommitmentCall) -> CommitmentChange
-    ensures { result ≡ change_of call }
-{
-    match call.kind {
-        CommitmentKind::Take => take_change(call.hour, call.unit, call.kwh),
-        CommitmentKind::Release => release_change(call.hour, call.unit, call.kwh),
-        CommitmentKind::Move => move_change(call.hour, call.unit, call.to, call.kwh),
+impl From<CommitmentCall> for CommitmentChange {
+    #[tactic(auto, unfolding(crate::specs::Changes::change_of))]
+    fn from(call: CommitmentCall) -> CommitmentChange
+        ensures { result ≡ change_of call }
+    {
+        match call.kind {
+            CommitmentKind::Take => take_change(call.hour, call.unit, call.kwh),
+            CommitmentKind::Release => release_change(call.hour, call.unit, call.kwh),
+            CommitmentKind::Move => move_change(call.hour, call.unit, call.to, call.kwh),
+        }
+    }
+}
+
+impl CommitmentChange {
+    // 24: whether a move's units are the same.
+    fn same_units(self) -> bool
+        ensures { result ≡ (self.moves && eqb self.from self.to) }
+    {
+        self.moves && self.from == self.to
+    }
+
+    // 21: whether nothing is given and nothing comes.
+    fn no_amount(self) -> bool
+        ensures { result ≡ (eqb self.out.0 0 && eqb self.into.0 0) }
+    {
+        self.out == HubKwh(0) && self.into == HubKwh(0)
     }
 }
 
@@ -249,20 +268,6 @@ fn over_offer(last: HubKwh, held: HubKwh, kwh: HubKwh) -> bool
     last < kwh || last.above(kwh) < held
 }
 
-// 24: whether a move's units are the same.
-fn same_units(change: CommitmentChange) -> bool
-    ensures { result ≡ (change.moves && eqb change.from change.to) }
-{
-    change.moves && change.from == change.to
-}
-
-// 21: whether nothing is given and nothing comes.
-fn no_amount(change: CommitmentChange) -> bool
-    ensures { result ≡ (eqb change.out.0 0 && eqb change.into.0 0) }
-{
-    change.out == HubKwh(0) && change.into == HubKwh(0)
-}
-
 // 10 11 24 20 21 23 22: by whether the hour is settled, the commitments of the units that give and get, and the latter's last offer quantity.
 #[tactic(auto, unfolding(ledger::specs::Calls::verdict))]
 pub fn change_verdict(
@@ -281,13 +286,13 @@ pub fn change_verdict(
     if units_unknown(units, change.from, change.to) {
         return Err(Refusal::UnitUnknown);
     }
-    if same_units(change) {
+    if change.same_units() {
         return Err(Refusal::SameUnit);
     }
     if settled {
         return Err(Refusal::HourSettled);
     }
-    if no_amount(change) {
+    if change.no_amount() {
         return Err(Refusal::NoAmount);
     }
     if source < change.out {

@@ -7,7 +7,7 @@ ghost use Rattle.decisions.specs.Calls.{record_of, call_of};
 ghost use Rattle.engine.specs.Table.{table, Ready, Carried};
 ghost use Rattle.engine.specs.Stored.{Stored, StoreReady, hour_answer};
 
-use decisions::{Call, HourChange};
+use decisions::{Call, CommitmentChange, HourChange};
 use ledger::{Effect, Refusal};
 use settlement::HourResult;
 use terms::DayTerms;
@@ -19,6 +19,8 @@ pub struct Done {
     pub place: u64,
     pub hour: u64,
 }
+
+// The book's numbers are lent one by one: in a struct, each of its five references would need a clause in each contract that it stays the same one.
 
 // An accepted settle, restate or void stored in its hour, and the differences of the amounts kept in an entry of the rows. A refused one changes
 // nothing, and its text place is `start`.
@@ -115,7 +117,7 @@ pub fn carry_out(
     let units = terms.units;
     match call {
         Call::Commitment(c) => {
-            let change = decisions::change_of(c);
+            let change = CommitmentChange::from(c);
             changed(commitments::change(commitment, mark, offers, units, change))
         }
         Call::Record(c) => {

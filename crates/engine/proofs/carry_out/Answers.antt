@@ -19,7 +19,7 @@ returns-in-Commitment c =
     (rw c.changed.ensures
     (commitment_carried _ _ (table c.args.commitment.now c.args.mark.now c.args.energy.now c.args.amounts.now) _ _ _ _ _ _
     c.requires.long _ _
-    c.change_of-change.ensures
+    c.from-change.ensures
     c.change.ensures))
 
 pub returns-in-Record : goal.returns-in-Record
