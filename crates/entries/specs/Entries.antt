@@ -1,5 +1,5 @@
 -- What `replay` prints of a call, as bytes: 10 is LF, 32 a space. "Each line ends in LF; a zero has no sign."
-use Rattle.std.specs.Prelude.{ℕ, cond, List, [], ◌∷◌, ◌++◌, ltb, eqb, ℤ, drop}
+use Rattle.std.specs.Prelude.{ℕ, cond, List, [], ◌∷◌, ◌++◌, ltb, ℤ, drop}
 use Rattle.decimal.specs.Decimal.{digits, signed}
 use Rattle.text.specs.Text.{before}
 use Rattle.text.specs.Bytes.{bytes}
@@ -10,7 +10,6 @@ use Rattle.ledger.specs.declared.Answer.{Answer}
 use Rattle.ledger.specs.declared.Answer.TheVariants.{Accepted, Posted, Refused}
 use Rattle.ledger.specs.declared.Verdict.{Verdict}
 use Rattle.ledger.specs.declared.Verdict.TheVariants.{Accepted as passes, Refused as fails}
-use Rattle.ledger.specs.declared.TotalAnswer.{TotalAnswer}
 use Rattle.ledger.specs.Numbers.{refusal_number, refusal_line}
 
 -- a number, or an amount in Rial, behind a space
@@ -40,17 +39,13 @@ unfoldable pub total_text : Verdict → ℤ → List ℕ
 total_text passes sum = bytes "sum=" ++ signed sum
 total_text (fails r) sum = refusal_text r
 
--- the result of a line of a kind; kind 7 is a total
-unfoldable pub result_text : (kind : ℕ) → Answer → TotalAnswer → List ℕ
-result_text kind a t = cond (eqb kind 7) (total_text t.verdict t.sum) (answer_text a)
-
 -- the line at a place of the text, without its LF
 unfoldable pub line_text : List ℕ → ℕ → List ℕ
 line_text text from = before 10 (drop from text)
 
 -- "Each call prints its line as it stands, a space and its result"
-unfoldable pub entry_line : List ℕ → (from kind : ℕ) → Answer → TotalAnswer → List ℕ
-entry_line text from kind a t = line_text text from ++ ((32 ∷ []) ++ (result_text kind a t ++ (10 ∷ [])))
+unfoldable pub entry_line : List ℕ → (from : ℕ) → (result : List ℕ) → List ℕ
+entry_line text from result = line_text text from ++ ((32 ∷ []) ++ (result ++ (10 ∷ [])))
 
 -- "A line that is no call ends the run: `line=N refused=NUMBER`"
 unfoldable pub stop_line : (line refusal : ℕ) → List ℕ
