@@ -1,6 +1,7 @@
 -- A day's count of calls never runs out while one is due: at first it is over the bytes that are left of the text, and each call takes a byte at
 -- least, a take its line and an accepted settle its record. So where no call is left, none was due: the text had ended, or something was refused.
 -- Assumes nothing.
+use Rattle.std.specs.Prelude.{Ok, Err}
 use mathlib.Core.Path.{◌≡◌, refl, sym, ap, subst}
 use mathlib.Core.Bool.{Bool, true, false, cond, not}
 use mathlib.Core.Logic.{⊎_elim}
@@ -13,7 +14,9 @@ use lib.ListN.{length, drop}
 use Rattle.text.specs.Text.{before, has, value_part, key_is}
 use Rattle.text.specs.Rows.{word}
 use Rattle.values.specs.Values.{value_of}
+use Rattle.std.specs.Prelude.{Result, Ok, Err}
 use Rattle.text.specs.declared.Line.{Line}
+use Rattle.text.specs.declared.TextFault.{TextFault}
 use Rattle.lines.specs.declared.ReadAnswer.{ReadAnswer}
 use Rattle.lines.specs.declared.ReadAnswer.TheVariants.{Read, Refused as Unread}
 use Rattle.lines.specs.declared.TextRefusal.{TextRefusal}
@@ -24,14 +27,11 @@ use Rattle.record.specs.declared.Record.{Record}
 use Rattle.record_text.specs.Hour.{read_record}
 use Rattle.record_text.proofs.Laws.{read_place}
 use Rattle.state.specs.declared.Book.{Book}
-use Rattle.ledger.specs.declared.Answer.{Answer}
-use Rattle.ledger.specs.declared.Answer.TheVariants.{Accepted, Posted, Refused}
+use Rattle.ledger.specs.Answers.{Answer, Verdict}
+use Rattle.ledger.specs.declared.Effect.TheVariants.{Committed, Posted}
 use Rattle.ledger.specs.declared.Asked.{Asked}
-use Rattle.ledger.specs.declared.Decision.{Decision}
 use Rattle.ledger.specs.declared.Refusal.TheVariants.{Text, SheetRange, BookRange, HourStands}
-use Rattle.ledger.specs.declared.Verdict.{Verdict}
-use Rattle.ledger.specs.declared.Verdict.TheVariants.{Accepted as passes, Refused as fails}
-use Rattle.ledger.specs.Calls.{Row, row, verdict, is_settled, always_rows, book_fits, text_rows, record_rows, request_rows, rows_of, accepted_in, recorded_at, place_after as place_behind, by_verdict, refused_with, decided, plain_request, record_request}
+use Rattle.ledger.specs.Calls.{Row, row, verdict, is_settled, always_rows, book_fits, text_rows, record_rows, request_rows, rows_of, accepted_in, recorded_at, place_after as place_behind, by_verdict, refused_with, decided, plain_request, record_request, Decision}
 use Rattle.ledger.specs.Requests.{call_for, part_of}
 use Rattle.single.specs.Journal.{performed}
 use Rattle.account.specs.declared.Due.{Due}
@@ -46,10 +46,10 @@ data Lasts (text : List ℕ) (x : Due) : Type 0 where
   take_due : (hour unit kwh : ℕ) → x.asked ≡ take_asked hour unit kwh → 0 < x.left → length text < x.after + x.left → Lasts text x
   settle_due : (at : ℕ) → x.asked ≡ settle_asked text at → 0 < x.left → length text ≤ at + x.left → Lasts text x
 
-take_lasts : (text : List ℕ) (left after : ℕ) (good : Bool) (hour unit kwh code : ℕ) → 0 < left - 1 → length text < after + (left - 1)
-    → Lasts text (due_with left (cond good (Asks (take_asked hour unit kwh) after) (Bad code)))
-take_lasts text left after true hour unit kwh code some enough = take_due hour unit kwh refl some enough
-take_lasts text left after false hour unit kwh code some enough = none refl
+take_lasts : (text : List ℕ) (left after : ℕ) (r : Result Line TextFault) → 0 < left - 1 → length text < after + (left - 1)
+    → Lasts text (due_with left (take_of r after))
+take_lasts text left after (Ok l) some enough = take_due _ _ _ refl some enough
+take_lasts text left after (Err f) some enough = none refl
 
 settle_lasts : (text : List ℕ) (left at : ℕ) (due : Bool) → 0 < left - 1 → length text ≤ at + (left - 1)
     → Lasts text (due_with left (cond due (settle_of text at) (Bad 1)))
@@ -63,7 +63,7 @@ due_lasts text at left enough = by (ltb at (length text)) refl (has 10 (drop at 
     line : List ℕ
     line = before 10 (drop at text)
 
-    read : Line
+    read : Result Line TextFault
     read = value_of take_row (value_part line)
 
     by : (t : Bool) → ltb at (length text) ≡ t → (ended taken : Bool)
@@ -73,32 +73,32 @@ due_lasts text at left enough = by (ltb at (length text)) refl (has 10 (drop at 
     by true e false taken = none refl
     by true e true true =
         let inside : at < length text = ltb-true _ _ e in
-        take_lasts text left (place_after text at) (eqb read.code 0) _ _ _ _ (omega arith) (omega arith)
+        take_lasts text left (place_after text at) read (omega arith) (omega arith)
     by true e true false =
         let inside : at < length text = ltb-true _ _ e in
         settle_lasts text left at (key_is line (word "hour")) (omega arith) (omega arith)
 
 -- a take posts nothing
 take_answer : (s : Sheet) (b : Book) (hour unit kwh count places : ℕ) (posted : Bool) (n : ℕ)
-    → (decided s b (plain_request 1 hour unit 0 kwh) count places posted).answer ≡ Posted n → ⊥
+    → (decided s b (plain_request 1 hour unit 0 kwh) count places posted).answer ≡ Ok (Posted n) → ⊥
 unfolding decided accepted_in
 take_answer s b hour unit kwh count places posted n = by (verdict (rows_of s b (plain_request 1 hour unit 0 kwh) count places posted))
   where
-    by : (v : Verdict) → (by_verdict v (accepted_in s b (plain_request 1 hour unit 0 kwh) count) (refused_with b count 0)).answer ≡ Posted n → ⊥
-    by passes e = let z : ◌≡◌ {A = ℕ} 0 1 = cc in omega arith
-    by (fails r) e = let z : ◌≡◌ {A = ℕ} 0 1 = cc in omega arith
+    by : (v : Verdict) → (by_verdict v (accepted_in s b (plain_request 1 hour unit 0 kwh) count) (refused_with b count 0)).answer ≡ Ok (Posted n) → ⊥
+    by (Ok tt) e = let z : ◌≡◌ {A = ℕ} 0 1 = cc in omega arith
+    by (Err r) e = let z : ◌≡◌ {A = ℕ} 0 1 = cc in omega arith
 
 -- an accepted settle posts, and gives a place behind its start
 module _ (s : Sheet) (b : Book) (text : List ℕ) (at count places : ℕ) (posted : Bool) where
-  settle_answer : (decided s b (record_request s 4 text at) count places posted).answer ≡ Accepted → ⊥
+  settle_answer : (decided s b (record_request s 4 text at) count places posted).answer ≡ Ok Committed → ⊥
   unfolding decided accepted_in
   settle_answer = by (verdict (rows_of s b (record_request s 4 text at) count places posted))
     where
-      by : (v : Verdict) → (by_verdict v (accepted_in s b (record_request s 4 text at) count) (refused_with b count at)).answer ≡ Accepted → ⊥
-      by passes e = let z : ◌≡◌ {A = ℕ} 0 1 = cc in omega arith
-      by (fails r) e = let z : ◌≡◌ {A = ℕ} 0 1 = cc in omega arith
+      by : (v : Verdict) → (by_verdict v (accepted_in s b (record_request s 4 text at) count) (refused_with b count at)).answer ≡ Ok Committed → ⊥
+      by (Ok tt) e = let z : ◌≡◌ {A = ℕ} 0 1 = cc in omega arith
+      by (Err r) e = let z : ◌≡◌ {A = ℕ} 0 1 = cc in omega arith
 
-  settle_place : (n : ℕ) → (decided s b (record_request s 4 text at) count places posted).answer ≡ Posted n
+  settle_place : (n : ℕ) → (decided s b (record_request s 4 text at) count places posted).answer ≡ Ok (Posted n)
       → at < (decided s b (record_request s 4 text at) count places posted).place
   unfolding decided accepted_in request_rows verdict
   settle_place n = by (read_record text at s.units (monthly_of s)).answer refl
@@ -115,35 +115,35 @@ module _ (s : Sheet) (b : Book) (text : List ℕ) (at count places : ℕ) (poste
       made : Verdict → ReadAnswer → Decision
       made v a = by_verdict v (recorded_at s b r (place_behind at a) count) (refused_with b count at)
 
-      read_well : (place : ℕ) → at < place → (v : Verdict) → (made v (Read place)).answer ≡ Posted n → at < (made v (Read place)).place
-      read_well place later passes e = later
-      read_well place later (fails x) e = absurd (let z : ◌≡◌ {A = ℕ} 0 1 = cc in omega arith)
+      read_well : (place : ℕ) → at < place → (v : Verdict) → (made v (Read place)).answer ≡ Ok (Posted n) → at < (made v (Read place)).place
+      read_well place later (Ok tt) e = later
+      read_well place later (Err x) e = absurd (let z : ◌≡◌ {A = ℕ} 0 1 = cc in omega arith)
 
       unread : (x : TextRefusal) (t u : Bool)
-          → let d = made (cond t (fails SheetRange) (cond u (fails BookRange) (fails (Text x)))) (Unread x) in
-          d.answer ≡ Posted n → at < d.place
+          → let d = made (cond t (Err SheetRange) (cond u (Err BookRange) (Err (Text x)))) (Unread x) in
+          d.answer ≡ Ok (Posted n) → at < d.place
       unread x true u e = absurd (let z : ◌≡◌ {A = ℕ} 0 1 = cc in omega arith)
       unread x false true e = absurd (let z : ◌≡◌ {A = ℕ} 0 1 = cc in omega arith)
       unread x false false e = absurd (let z : ◌≡◌ {A = ℕ} 0 1 = cc in omega arith)
 
       by : (a : ReadAnswer) → (read_record text at s.units (monthly_of s)).answer ≡ a
           → let d = made (verdict (first ++ (text_rows a ++ behind))) a in
-          d.answer ≡ Posted n → at < d.place
+          d.answer ≡ Ok (Posted n) → at < d.place
       by (Read place) e = read_well place (read_place text at s.units (monthly_of s) place e).0 (verdict (first ++ behind))
       by (Unread x) e = unread x (not (sheet_holds s)) (not (book_fits s b count places posted))
 
 -- after a call that was due nothing is due, or another call for which the count has bytes left
 answered_lasts : (text : List ℕ) (x : Due) (place : ℕ) (a : Answer) → Lasts text x → 0 < x.left
-    → ((hour unit kwh : ℕ) → x.asked ≡ take_asked hour unit kwh → (n : ℕ) → a ≡ Posted n → ⊥)
-    → ((at : ℕ) → x.asked ≡ settle_asked text at → (a ≡ Accepted → ⊥) × ((n : ℕ) → a ≡ Posted n → at < place))
+    → ((hour unit kwh : ℕ) → x.asked ≡ take_asked hour unit kwh → (n : ℕ) → a ≡ Ok (Posted n) → ⊥)
+    → ((at : ℕ) → x.asked ≡ settle_asked text at → (a ≡ Ok Committed → ⊥) × ((n : ℕ) → a ≡ Ok (Posted n) → at < place))
     → Lasts text (answered_by text x.after x.left place a)
-answered_lasts text x place (Refused r) lasts some take settle = none refl
-answered_lasts text x place Accepted (none e) some take settle = absurd (omega (arith, ap (λ (d : Due). d.left) e))
-answered_lasts text x place Accepted (take_due h u k e l enough) some take settle = due_lasts text x.after x.left enough
-answered_lasts text x place Accepted (settle_due at e l enough) some take settle = absurd ((settle at e).0 refl)
-answered_lasts text x place (Posted n) (none e) some take settle = absurd (omega (arith, ap (λ (d : Due). d.left) e))
-answered_lasts text x place (Posted n) (take_due h u k e l enough) some take settle = absurd (take h u k e n refl)
-answered_lasts text x place (Posted n) (settle_due at e l enough) some take settle =
+answered_lasts text x place (Err r) lasts some take settle = none refl
+answered_lasts text x place (Ok Committed) (none e) some take settle = absurd (omega (arith, ap (λ (d : Due). d.left) e))
+answered_lasts text x place (Ok Committed) (take_due h u k e l enough) some take settle = due_lasts text x.after x.left enough
+answered_lasts text x place (Ok Committed) (settle_due at e l enough) some take settle = absurd ((settle at e).0 refl)
+answered_lasts text x place (Ok (Posted n)) (none e) some take settle = absurd (omega (arith, ap (λ (d : Due). d.left) e))
+answered_lasts text x place (Ok (Posted n)) (take_due h u k e l enough) some take settle = absurd (take h u k e n refl)
+answered_lasts text x place (Ok (Posted n)) (settle_due at e l enough) some take settle =
     let later = (settle at e).1 n refl in
     due_lasts text place x.left (omega arith)
 
@@ -152,19 +152,19 @@ abbrev due_in : Day → Due
 due_in d = record { left = d.left; asked = d.asked; after = d.after; refusal = d.refusal }
 
 module _ (sheet : Sheet) (text : List ℕ) where
-  take_told : (r : Running) (hour unit kwh : ℕ) → r.day.asked ≡ take_asked hour unit kwh → (n : ℕ) → (performed_in sheet text r).outcome.answer ≡ Posted n → ⊥
+  take_told : (r : Running) (hour unit kwh : ℕ) → r.day.asked ≡ take_asked hour unit kwh → (n : ℕ) → (performed_in sheet text r).outcome.answer ≡ Ok (Posted n) → ⊥
   unfolding performed call_for
   take_told r hour unit kwh e n h =
       take_answer sheet r.day.book hour unit kwh r.day.count _ _ n
-      (subst (λ (a : Asked). (performed r.list r.day.count sheet r.day.book (call_for text a)).outcome.answer ≡ Posted n) e h)
+      (subst (λ (a : Asked). (performed r.list r.day.count sheet r.day.book (call_for text a)).outcome.answer ≡ Ok (Posted n)) e h)
 
   settle_told : (r : Running) (at : ℕ) → r.day.asked ≡ settle_asked text at
       → let o = (performed_in sheet text r).outcome in
-      (o.answer ≡ Accepted → ⊥) × ((n : ℕ) → o.answer ≡ Posted n → at < o.place)
+      (o.answer ≡ Ok Committed → ⊥) × ((n : ℕ) → o.answer ≡ Ok (Posted n) → at < o.place)
   unfolding performed call_for
   settle_told r at e =
       subst (λ (a : Asked). let o = (performed r.list r.day.count sheet r.day.book (call_for text a)).outcome in
-      (o.answer ≡ Accepted → ⊥) × ((n : ℕ) → o.answer ≡ Posted n → at < o.place)) (sym e) (
+      (o.answer ≡ Ok Committed → ⊥) × ((n : ℕ) → o.answer ≡ Ok (Posted n) → at < o.place)) (sym e) (
         settle_answer sheet r.day.book (part_of text 0 (length text)) at r.day.count _ _,
         settle_place sheet r.day.book (part_of text 0 (length text)) at r.day.count _ _,
       )

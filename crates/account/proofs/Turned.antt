@@ -1,5 +1,6 @@
 -- Each turn leaves fewer calls, so the turns end, and those from a day on are those from the day after it.
 -- Assumes nothing.
+use Rattle.std.specs.Prelude.{Ok, Err}
 use mathlib.Core.Path.{◌≡◌, refl, sym, ap, ◌∙◌}
 use mathlib.Core.Logic.{◌⊎◌, inl, inr, ⊎_elim}
 use mathlib.Core.Bool.{cond}
@@ -9,8 +10,8 @@ use native.Mathlib.Omega.{arith}
 use borrow.Author.Tests.{ne_eqb}
 use lib.Dec.{eqb}
 use Rattle.sheet.specs.declared.Sheet.{Sheet}
-use Rattle.ledger.specs.declared.Answer.{Answer}
-use Rattle.ledger.specs.declared.Answer.TheVariants.{Accepted, Posted, Refused}
+use Rattle.ledger.specs.Answers.{Answer}
+use Rattle.ledger.specs.declared.Effect.TheVariants.{Committed, Posted}
 use Rattle.account.specs.declared.Next.{Next}
 use Rattle.account.specs.declared.Next.TheVariants.{Ends, Bad, Asks}
 use Rattle.account.specs.Day.{next_at, due_with, answered_by, day_after, Running, performed_in, turned, ran_to, ran_out}
@@ -22,9 +23,9 @@ left_with left (Bad k) = inl refl
 left_with left (Asks a after) = inr refl
 
 pub left_by : (text : List ℕ) (after left place : ℕ) (a : Answer) → ((answered_by text after left place a).left ≡ 0) ⊎ ((answered_by text after left place a).left ≡ left - 1)
-left_by text after left place Accepted = left_with left (next_at text after)
-left_by text after left place (Posted n) = left_with left (next_at text place)
-left_by text after left place (Refused r) = inl refl
+left_by text after left place (Ok Committed) = left_with left (next_at text after)
+left_by text after left place (Ok (Posted n)) = left_with left (next_at text place)
+left_by text after left place (Err r) = inl refl
 
 pub left_next : (sheet : Sheet) (text : List ℕ) (s : Running) → ((turned sheet text s).day.left ≡ 0) ⊎ ((turned sheet text s).day.left ≡ s.day.left - 1)
 unfolding turned day_after

@@ -18,11 +18,10 @@ use Rattle.state.proofs.Empty.{empty_sized}
 use Rattle.postings.specs.declared.Posting.{Posting}
 use Rattle.postings.specs.Journal.{no_posting, count_holds}
 use Rattle.postings.proofs.Counted.{count_most}
-use Rattle.ledger.specs.declared.Answer.{Answer}
-use Rattle.ledger.specs.declared.Decision.{Decision}
+use Rattle.ledger.specs.Answers.{Answer}
 use Rattle.ledger.specs.Ledger.{Call as LedgerCall}
 use Rattle.ledger.specs.Numbers.{posted_of}
-use Rattle.ledger.specs.Calls.{State, request_of, request_decided, decided_on, outcome_of, ran_from}
+use Rattle.ledger.specs.Calls.{State, request_of, request_decided, decided_on, outcome_of, ran_from, Decision}
 use Rattle.ledger.specs.Requests.{call_for}
 use Rattle.ledger.proofs.Keeps.{Kept, carried_keeps, carried_long}
 use Rattle.ledger.proofs.Places.{decided_fits, decided_on_lem}

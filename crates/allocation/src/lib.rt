@@ -12,7 +12,7 @@ ghost use Rattle.allocation.specs.Fill.{grains_at, better, best, fill as the_fil
 ghost use Rattle.allocation.specs.Allocation.{net_at, gross_at, plant_energy, ceilings as the_ceilings, prices_of, energies, PlantHolds};
 ghost use Rattle.allocation.specs.Blocks.{block_price, Offered, HasBlock};
 
-use energy::{GrossKwh, HubGrains, HubKwh, NetKwh};
+use energy::{Energy, GrossKwh, HubGrains, HubKwh, NetKwh};
 use offer::{Block, Offer};
 
 // A unit's place, or none.

@@ -1,6 +1,7 @@
 -- A batch of calls under way. One call more, carried out on the book's numbers and kept in an entry of the rows, is that call on the list: its decision is the one
 -- of its own rows, since 12 never comes up, and the rows of the entries so far with those of its own are the postings appended.
 -- Assumes nothing.
+use Rattle.std.specs.Prelude.{Ok, Err}
 use mathlib.Core.Path.{◌≡◌, refl, sym, ap, ap₂, ◌∙◌, subst}
 use mathlib.Core.Bool.{true}
 use mathlib.Core.List.{List}
@@ -24,12 +25,11 @@ use Rattle.postings.specs.Plan.{plan_rows}
 use Rattle.postings.specs.Entries.{most_entries, entry_size, EntryRows}
 use Rattle.postings.proofs.Counted.{count_most}
 use Rattle.postings.proofs.Entries.{entry_plan}
-use Rattle.ledger.specs.declared.Answer.{Answer}
-use Rattle.ledger.specs.declared.Answer.TheVariants.{Accepted, Posted, Refused}
-use Rattle.ledger.specs.declared.Decision.{Decision}
+use Rattle.ledger.specs.Answers.{Answer}
+use Rattle.ledger.specs.declared.Effect.TheVariants.{Committed, Posted}
 use Rattle.ledger.specs.Ledger.{Call}
 use Rattle.ledger.specs.Numbers.{number_of, line_of, posted_of}
-use Rattle.ledger.specs.Calls.{request_of, request_decided, outcome_of}
+use Rattle.ledger.specs.Calls.{request_of, request_decided, outcome_of, Decision}
 use Rattle.ledger.specs.Requests.{asked_at, call_at}
 use Rattle.ledger.proofs.Keeps.{Kept}
 use Rattle.decisions.specs.Calls.{decoded, call_of}
@@ -47,14 +47,14 @@ use Rattle.batch.proofs.Along.{kept_here, places_here, next_is}
 
 -- what is posted is one entry, or none
 some_entry : (a : Answer) (size : ℕ) → 0 < size * entries_of a → entries_of a ≡ 1
-some_entry Accepted size h = absurd (omega arith)
-some_entry (Posted n) size h = refl
-some_entry (Refused r) size h = absurd (omega arith)
+some_entry (Ok Committed) size h = absurd (omega arith)
+some_entry (Ok (Posted n)) size h = refl
+some_entry (Err r) size h = absurd (omega arith)
 
 most_entry : (a : Answer) (size : ℕ) → size * entries_of a ≤ size
-most_entry Accepted size = omega arith
-most_entry (Posted n) size = omega arith
-most_entry (Refused r) size = omega arith
+most_entry (Ok Committed) size = omega arith
+most_entry (Ok (Posted n)) size = omega arith
+most_entry (Err r) size = omega arith
 
 -- the entries before the last one are kept
 earlier_rows : (units : ℕ) (hours : List ℕ) (rows rows' : List ℤ) (filled more hour : ℕ) (r : List Posting)

@@ -1,7 +1,8 @@
 -- What the lines of a unit say, and what blank means there (01, Hour record).
-use Rattle.std.specs.Prelude.{ℕ, ◌+◌, ◌*◌, ◌/◌, Bool, cond, List, eqb, ltb, get_or}
+use Rattle.std.specs.Prelude.{ℕ, ◌+◌, ◌*◌, ◌/◌, Bool, cond, Option, Some, None, List, eqb, get_or}
 use Rattle.finite.specs.Finite.{tabulate}
 use Rattle.energy.specs.declared.GrossKwh.{GrossKwh}
+use Rattle.energy.specs.declared.NetKwh.{NetKwh}
 use Rattle.units.specs.Units.{member_at, members}
 use Rattle.text.specs.declared.Line.{Line}
 use Rattle.lines.specs.Lines.{number_of}
@@ -18,6 +19,10 @@ blank l = eqb l.count 0
 -- "Blank means 0 (..), except: (..)": the number of a line, or what blank means there
 abbrev pub value_or : ℕ → Line → ℕ
 value_or b l = cond (blank l) b (number_of l)
+
+-- "`reading` blank = unmeasured"
+abbrev pub reading_by : Line → Option NetKwh
+reading_by l = cond (blank l) None (Some (record { 0 = number_of l }))
 
 -- "minutes:kind:cause:capability", the span of place i
 abbrev pub span_in : Line → ℕ → Span
@@ -44,7 +49,7 @@ spans_by l = cond (blank l) 1 (l.count / 4)
 abbrev pub declared_by : (ℕ → Line) → ℕ → GrossKwh → GrossKwh
 declared_by f j monthly = record { 0 = value_or monthly.0 (f (block_line j + declared_line)) }
 
--- block j of the units, for a unit of that `monthly`; f k is line k, from 0. "`reading` blank = unmeasured; `since` blank = 1"
+-- block j of the units, for a unit of that `monthly`; f k is line k, from 0. "`since` blank = 1"
 unfoldable pub unit_by : (ℕ → Line) → ℕ → GrossKwh → UnitRecord
 unit_by f j monthly =
     record {
@@ -53,8 +58,7 @@ unit_by f j monthly =
       test = record { 0 = value_or 0 (f (block_line j + test_line)) };
       deviation = record { 0 = value_or 0 (f (block_line j + deviation_line)) };
       power = record { 0 = value_or monthly.0 (f (block_line j + power_line)) };
-      measured = ltb 0 (f (block_line j + reading_line)).count;
-      reading = record { 0 = value_or 0 (f (block_line j + reading_line)) };
+      reading = reading_by (f (block_line j + reading_line));
       since = value_or 1 (f (block_line j + since_line));
       repair = value_or 0 (f (block_line j + repair_line));
       spans = spans_by (f (block_line j + spans_line));

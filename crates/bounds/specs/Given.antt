@@ -1,6 +1,6 @@
 -- What every call is given, what 9 and 12 say of it (01, table of refusals), and a good sheet, book and journal with each of their
 -- values to be put in. Hours, units, items and steps are counted from 1.
-use Rattle.std.specs.Prelude.{cond, ◌&&◌, List, [], ◌∷◌, ℕ, ◌-◌, ℤ, pos, negsuc, length, take, set, replicate}
+use Rattle.std.specs.Prelude.{cond, ◌&&◌, List, [], ◌∷◌, ℕ, ◌-◌, ℤ, pos, negsuc, length, take, set, replicate, Ok, Err}
 use Rattle.finite.specs.Finite.{tabulate}
 use Rattle.energy.specs.declared.GrossKwh.{GrossKwh}
 use Rattle.energy.specs.declared.HubKwh.{HubKwh}
@@ -15,8 +15,7 @@ use Rattle.state.specs.Sizes.{entry_of}
 use Rattle.state.specs.Ranges.{book_holds}
 use Rattle.postings.specs.declared.Posting.{Posting}
 use Rattle.postings.specs.Journal.{count_holds, posted_hold}
-use Rattle.ledger.specs.declared.Verdict.{Verdict}
-use Rattle.ledger.specs.declared.Verdict.TheVariants.{Accepted, Refused}
+use Rattle.ledger.specs.Answers.{Verdict}
 use Rattle.ledger.specs.Numbers.{refusal_number}
 
 -- sheet, book, and the journal: a count and a list of places
@@ -35,8 +34,8 @@ refusal g =
 
 -- document 01's number of a verdict, 0 where nothing is refused
 abbrev pub number_of : Verdict → ℕ
-number_of Accepted = 0
-number_of (Refused r) = refusal_number r
+number_of (Ok tt) = 0
+number_of (Err r) = refusal_number r
 
 -- what neither looks at: the sheet's values of units outside the plant, by unit; an offer's places past its steps; and, by the place in
 -- the journal, what stands past the count, and all but the amount of what is counted

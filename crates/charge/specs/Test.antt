@@ -1,5 +1,5 @@
 -- Item 4, the test, in Rial: 01, Five items, sentence by sentence. The differences of natural numbers below stop at 0, as 01's max(.., 0) says.
-use Rattle.std.specs.Prelude.{ℕ, ◌+◌, ◌*◌, ◌-◌, ◌/◌, ◌^◌, ◌≤◌, ◌<◌, min, Bool, true, false, cond, ◌||◌, List, [], ◌∷◌, ltb, eqb, get_or}
+use Rattle.std.specs.Prelude.{ℕ, ◌+◌, ◌*◌, ◌-◌, ◌/◌, ◌^◌, ◌≤◌, ◌<◌, min, Bool, true, false, cond, ◌||◌, Option, Some, None, List, [], ◌∷◌, ltb, eqb, get_or}
 use Rattle.finite.specs.Finite.{sum}
 use Rattle.energy.specs.declared.NetKwh.{NetKwh}
 use Rattle.energy.specs.declared.HubGrains.{HubGrains}
@@ -47,9 +47,12 @@ counted_deviation d repair = record { 0 = sum kinds (counted_part d repair) }
 
 -- "Charged exactly if q > 2,000 or 20 × q > reading (unmeasured: the unit's hub energy over 10,000 − L, compared exactly)":
 -- the energy over 10,000 − L is below 20 × q exactly where the energy is below 20 × q × (10,000 − L)
-unfoldable pub is_charged : NetKwh → Bool → NetKwh → HubGrains → ℕ → Bool
-is_charged q measured reading energy loss =
-    ltb 2000 q.0 || cond measured (ltb reading.0 (20 * q.0)) (ltb energy.0 (20 * q.0 * (10000 - loss)))
+abbrev pub over_reading : NetKwh → Option NetKwh → HubGrains → ℕ → Bool
+over_reading q (Some reading) energy loss = ltb reading.0 (20 * q.0)
+over_reading q None energy loss = ltb energy.0 (20 * q.0 * (10000 - loss))
+
+unfoldable pub is_charged : NetKwh → Option NetKwh → HubGrains → ℕ → Bool
+is_charged q reading energy loss = ltb 2000 q.0 || over_reading q reading energy loss
 
 -- W: what counts of each kind, times its weight
 abbrev pub weighted_part : Deviations → ℕ → ℕ → ℕ

@@ -1,6 +1,7 @@
 -- A take, release or move as the code has it, where the places, the limit and the verdict are results of calls: each of its two returns is what the
 -- definition says. What comes fits, since the verdict has compared it with the last offer quantity and what is given makes no commitment larger.
 -- Assumes nothing.
+use Rattle.std.specs.Prelude.{Ok, Err}
 use mathlib.Core.Path.{◌≡◌, refl, ◌∙◌}
 use mathlib.Core.Bool.{Bool, true, false}
 use mathlib.Core.List.{List}
@@ -16,9 +17,8 @@ use Rattle.state.specs.Sizes.{places}
 use Rattle.state.specs.Book.{settled_mark}
 use Rattle.state.specs.Ranges.{limit_of}
 use Rattle.ledger.specs.declared.Refusal.{Refusal}
-use Rattle.ledger.specs.declared.Answer.TheVariants.{Accepted, Refused}
-use Rattle.ledger.specs.declared.Verdict.{Verdict}
-use Rattle.ledger.specs.declared.Verdict.TheVariants.{Accepted as passes, Refused as fails}
+use Rattle.ledger.specs.Answers.{Verdict}
+use Rattle.ledger.specs.declared.Effect.TheVariants.{Committed}
 use Rattle.ledger.specs.Calls.{verdict}
 use Rattle.numbers.specs.Offers.{offer_in}
 use Rattle.decisions.specs.declared.CommitmentChange.{CommitmentChange}
@@ -43,13 +43,13 @@ module _ (c mark offers : List ℕ) (units : ℕ) (x : CommitmentChange) (h from
   found_is : verdict_in c mark offers units x ≡ found
   found_is = rw (last_is, member_is, h_is, from_is, to_is)
 
-  pub refused_change : (r : Refusal) → found ≡ fails r → ◌≡◌ {A = Changed} (record { commitment = c; answer = Refused r }) (changed_in c mark offers units x)
+  pub refused_change : (r : Refusal) → found ≡ Err r → ◌≡◌ {A = Changed} (record { commitment = c; answer = Err r }) (changed_in c mark offers units x)
   unfolding changed_in
   refused_change r e = rw (found_is ∙ e)
 
-  module _ (left : ℕ) (left_is : left ≡ get_or c from 0 - x.out.0) (e : found ≡ passes) where
+  module _ (left : ℕ) (left_is : left ≡ get_or c from 0 - x.out.0) (e : found ≡ Ok tt) where
     pub accepted_change : (sum : ℕ) → sum ≡ get_or (set c from left) to 0 + x.into.0
-        → ◌≡◌ {A = Changed} (record { commitment = set (set c from left) to sum; answer = Accepted }) (changed_in c mark offers units x)
+        → ◌≡◌ {A = Changed} (record { commitment = set (set c from left) to sum; answer = Ok Committed }) (changed_in c mark offers units x)
     unfolding changed_in
     accepted_change sum sum_is_lem = rw (found_is ∙ e, sum_is_lem, left_is, from_is, to_is)
 

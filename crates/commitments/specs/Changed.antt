@@ -1,13 +1,11 @@
 -- A take, release or move on the commitments' numbers.
-use Rattle.std.specs.Prelude.{List, ℕ, ◌+◌, ◌-◌, ◌%◌, eqb, get_or, set}
+use Rattle.std.specs.Prelude.{List, ℕ, ◌+◌, ◌-◌, ◌%◌, eqb, get_or, set, Ok, Err}
 use Rattle.units.specs.Units.{member_at}
 use Rattle.state.specs.Sizes.{places}
 use Rattle.state.specs.Book.{settled_mark}
 use Rattle.state.specs.Ranges.{limit_of}
-use Rattle.ledger.specs.declared.Answer.{Answer}
-use Rattle.ledger.specs.declared.Answer.TheVariants.{Accepted, Refused}
-use Rattle.ledger.specs.declared.Verdict.{Verdict}
-use Rattle.ledger.specs.declared.Verdict.TheVariants.{Accepted as passes, Refused as fails}
+use Rattle.ledger.specs.Answers.{Answer, Verdict}
+use Rattle.ledger.specs.declared.Effect.TheVariants.{Committed}
 use Rattle.ledger.specs.Calls.{verdict}
 use Rattle.numbers.specs.Offers.{offer_in}
 use Rattle.decisions.specs.declared.CommitmentChange.{CommitmentChange}
@@ -26,8 +24,8 @@ pub record Changed : Type 0 where
   pub answer : Answer
 
 abbrev pub changed_by : Verdict → List ℕ → (from to out into : ℕ) → Changed
-changed_by passes c from to out into = record { commitment = shifted c from to out into; answer = Accepted }
-changed_by (fails r) c from to out into = record { commitment = c; answer = Refused r }
+changed_by (Ok tt) c from to out into = record { commitment = shifted c from to out into; answer = Ok Committed }
+changed_by (Err r) c from to out into = record { commitment = c; answer = Err r }
 
 -- the conditions of the table, by the hour's mark, the commitments of the units that give and get, and the latter's last offer quantity
 abbrev pub verdict_in : List ℕ → List ℕ → List ℕ → (units : ℕ) → CommitmentChange → Verdict

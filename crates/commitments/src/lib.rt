@@ -7,8 +7,8 @@ ghost use Rattle.numbers.specs.Offers.{offer_size};
 ghost use Rattle.commitments.specs.Changed.{changed_in};
 
 use decisions::CommitmentChange;
-use energy::HubKwh;
-use ledger::{Answer, Verdict};
+use energy::{Energy, HubKwh};
+use ledger::{Effect, Refusal};
 
 // A take, release or move: it is tested, and where it is accepted what is given goes off one commitment and what comes is added to the other.
 pub fn change(
@@ -17,7 +17,7 @@ pub fn change(
     offers: &[u64],
     units: u64,
     c: CommitmentChange,
-) -> Answer
+) -> Result<Effect, Refusal>
     requires { (length commitment.old ≡ entries) × (length mark.now ≡ hours) × (length offers.now ≡ offer_size * entries) }
     ensures { record { commitment = commitment.exit.now; answer = result } ≡ changed_in commitment.entry.now mark.now offers.now units c }
 {
@@ -28,15 +28,10 @@ pub fn change(
     let source = HubKwh(commitment[from]);
     let held = HubKwh(commitment[to]);
     let last = numbers::limit_in(offers, units::member_at(units, to % 8), to);
-    let verdict = decisions::change_verdict(units, c, settled, source, held, last);
-    match verdict {
-        Verdict::Refused(refusal) => Answer::Refused(refusal),
-        Verdict::Accepted => {
-            let left = source.above(c.out);
-            commitment[from] = left.0;
-            let then = HubKwh(commitment[to]).plus(c.into);
-            commitment[to] = then.0;
-            Answer::Accepted
-        }
-    }
+    decisions::change_verdict(units, c, settled, source, held, last)?;
+    let left = source.above(c.out);
+    commitment[from] = left.0;
+    let then = HubKwh(commitment[to]).plus(c.into);
+    commitment[to] = then.0;
+    Ok(Effect::Committed)
 }

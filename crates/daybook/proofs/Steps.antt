@@ -13,7 +13,7 @@ use Rattle.lines.specs.declared.ReadAnswer.TheVariants.{Read, Refused}
 use Rattle.lines.specs.declared.TextRefusal.{TextRefusal}
 use Rattle.postings.specs.declared.Posting.{Posting}
 use Rattle.ledger.specs.declared.Outcome.{Outcome}
-use Rattle.ledger.specs.declared.TotalAnswer.{TotalAnswer}
+use Rattle.ledger.specs.Answers.{TotalAnswer}
 use Rattle.single.specs.Journal.{Performed}
 use Rattle.asks.specs.declared.Asking.{Asking}
 use Rattle.asks.specs.Asks.{asking_at}
@@ -36,10 +36,10 @@ module _ (sheet : Sheet) (text : List ℕ) (c : Course) (a : Asking) (e : a ≡ 
       simp (eq-eqb a.kind 7 k) in
       first ∙ ap (λ (x : Asking). left_by c x (called sheet text c x)) e
 
-  pub total_printed : (t : TotalAnswer) → a.kind ≡ 7 → t ≡ totalled sheet c a.unit a.item → entry_line text c.at (total_text t.verdict t.sum) ≡ step_line sheet text c
+  pub total_printed : (t : TotalAnswer) → a.kind ≡ 7 → t ≡ totalled sheet c a.unit a.item → entry_line text c.at (total_text t) ≡ step_line sheet text c
   unfolding step_line
   total_printed t k h =
-      let first : total_text t.verdict t.sum ≡ result_text a (called sheet text c a) t = simp (eq-eqb a.kind 7 k) in
+      let first : total_text t ≡ result_text a (called sheet text c a) t = simp (eq-eqb a.kind 7 k) in
       ap (entry_line text c.at) first
       ∙ (ap (λ (u : TotalAnswer). entry_line text c.at (result_text a (called sheet text c a) u)) h
       ∙ ap (λ (x : Asking). entry_line text c.at (result_text x (called sheet text c x) (totalled sheet c x.unit x.item))) e)

@@ -9,7 +9,7 @@ use Rattle.state.specs.declared.Book.{Book}
 use Rattle.state.specs.Book.{empty_book}
 use Rattle.postings.specs.declared.Posting.{Posting}
 use Rattle.postings.specs.Journal.{no_posting}
-use Rattle.ledger.specs.declared.TotalAnswer.{TotalAnswer}
+use Rattle.ledger.specs.Answers.{TotalAnswer}
 use Rattle.ledger.specs.Requests.{call_for}
 use Rattle.ledger.specs.Total.{total_on}
 use Rattle.single.specs.Journal.{Performed, performed}
@@ -48,7 +48,7 @@ stepped sheet text c = left_by c (asking_at text c.at) (called sheet text c (ask
 
 -- what is printed of it
 abbrev pub result_text : Asking → Performed → TotalAnswer → List ℕ
-result_text a p t = cond (eqb a.kind 7) (total_text t.verdict t.sum) (answer_text p.outcome.answer)
+result_text a p t = cond (eqb a.kind 7) (total_text t) (answer_text p.outcome.answer)
 
 unfoldable pub step_line : Sheet → List ℕ → Course → List ℕ
 step_line sheet text c =
@@ -74,7 +74,7 @@ begun from = record { list = own_list; count = 0; book = empty_book; at = from }
 unfoldable pub listed_total : Sheet → Course → ℕ → List ℕ
 listed_total sheet c n =
     let t = totalled sheet c (n / 5 + 1) (n % 5 + 1) in
-    total_line (n / 5 + 1) (n % 5 + 1) t.verdict t.sum
+    total_line (n / 5 + 1) (n % 5 + 1) t
 
 unfoldable pub last_tables : Sheet → Course → List ℕ
 last_tables sheet c = tables sheet.units c.book ++ joined 40 (listed_total sheet c)

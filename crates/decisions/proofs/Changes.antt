@@ -1,6 +1,7 @@
 -- A take, release or move as one change of two commitments: the change is tested as its call is, its places in the book are those of its hour and
 -- units, and what its passed tests say.
 -- Assumes nothing.
+use Rattle.std.specs.Prelude.{Ok}
 use mathlib.Core.Path.{◌≡◌, refl}
 use mathlib.Core.Bool.{Bool, true, false, cond, ◌||◌, and-true, and_self, or_self}
 use Prim.Native.Nat.{ℕ, ◌+◌, ◌-◌, ◌≤◌, ◌<◌}
@@ -10,7 +11,6 @@ use lib.Dec.{ltb}
 use Rattle.units.specs.Units.{is_member}
 use Rattle.units.proofs.Laws.{member}
 use Rattle.state.specs.Sizes.{entry_of}
-use Rattle.ledger.specs.declared.Verdict.TheVariants.{Accepted}
 use Rattle.ledger.specs.Calls.{verdict, bad_hour, take_tests, release_tests, move_tests}
 use Rattle.ledger.proofs.Places.{passed}
 use Rattle.ledger.proofs.Passed.{hour_in, unit_in, from_known, to_known}
@@ -71,7 +71,7 @@ pub record Passed (units : ℕ) (c : CommitmentChange) (settled : Bool) (source 
   pub room : held + c.into.0 ≤ last
   pub apart : c.moves ≡ true → c.from ≡ c.to → ⊥
 
-pub changed_passed : (units : ℕ) (c : CommitmentChange) (settled : Bool) (source held last : ℕ) → verdict (change_tests units c settled source held last) ≡ Accepted
+pub changed_passed : (units : ℕ) (c : CommitmentChange) (settled : Bool) (source held last : ℕ) → verdict (change_tests units c settled source held last) ≡ Ok tt
     → Passed units c settled source held last
 changed_passed units c settled source held last e =
     let p10 = passed _ _ e in

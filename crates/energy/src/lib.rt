@@ -2,7 +2,7 @@
 // compared with its own kind only, and the conversions from one kind to another stand here alone.
 #![tactic(auto)]
 
-ghost use Rattle.std.specs.Prelude.{◌≡◌, ◌+◌, ◌*◌, ◌-◌, ◌/◌, ◌^◌, ◌≤◌, ◌<◌, min, max, ltb, eqb};
+ghost use Rattle.std.specs.Prelude.{◌≡◌, ℕ, ◌+◌, ◌*◌, ◌-◌, ◌/◌, ◌^◌, ◌≤◌, ◌<◌, min, max, ltb, eqb};
 ghost use Rattle.energy.specs.Energy.{net_of, hub_of, gate_of, grains_of, pay_of};
 
 // Gross energy in kWh.
@@ -21,7 +21,85 @@ pub struct HubKwh(pub u64);
 #[derive(Clone, Copy, PartialEq, Eq, PartialOrd, Ord)]
 pub struct HubGrains(pub u64);
 
+// An energy of one kind, which is added to and subtracted from its own kind only: an amount of the kind's unit.
+pub trait Energy: Copy {
+    ghost amount: { Self → ℕ };
+
+    fn of(number: u64) -> Self
+        ensures { amount result ≡ number };
+
+    fn amount(self) -> u64
+        ensures { result ≡ amount self };
+
+    final fn plus(self, more: Self) -> Self
+        requires { amount self + amount more < 2 ^ 64 }
+        ensures { amount result ≡ amount self + amount more }
+    {
+        Self::of(self.amount() + more.amount())
+    }
+
+    // max(self - other, 0)
+    final fn above(self, other: Self) -> Self
+        ensures { amount result ≡ amount self - amount other }
+    {
+        Self::of(self.amount().saturating_sub(other.amount()))
+    }
+}
+
+impl Energy for GrossKwh {
+    ghost amount = { λ e. e.0 };
+
+    fn of(kwh: u64) -> GrossKwh {
+        GrossKwh(kwh)
+    }
+
+    fn amount(self) -> u64 {
+        let GrossKwh(kwh) = self;
+        kwh
+    }
+}
+
+impl Energy for NetKwh {
+    ghost amount = { λ e. e.0 };
+
+    fn of(kwh: u64) -> NetKwh {
+        NetKwh(kwh)
+    }
+
+    fn amount(self) -> u64 {
+        let NetKwh(kwh) = self;
+        kwh
+    }
+}
+
+impl Energy for HubKwh {
+    ghost amount = { λ e. e.0 };
+
+    fn of(kwh: u64) -> HubKwh {
+        HubKwh(kwh)
+    }
+
+    fn amount(self) -> u64 {
+        let HubKwh(kwh) = self;
+        kwh
+    }
+}
+
+impl Energy for HubGrains {
+    ghost amount = { λ e. e.0 };
+
+    fn of(grains: u64) -> HubGrains {
+        HubGrains(grains)
+    }
+
+    fn amount(self) -> u64 {
+        let HubGrains(grains) = self;
+        grains
+    }
+}
+
 // Net of gross: less the unit's own use, in ten-thousandths.
+#[tactic(auto, unfolding(crate::specs::Energy::net_of))]
 pub fn net_of(gross: GrossKwh, own: u64) -> NetKwh
     requires { (gross.0 ≤ 1000000000) × (own ≤ 10000) }
     ensures { result ≡ net_of gross own }
@@ -32,6 +110,7 @@ pub fn net_of(gross: GrossKwh, own: u64) -> NetKwh
 }
 
 // Hub energy of net energy at the gate: less the plant's loss, in ten-thousandths.
+#[tactic(auto, unfolding(crate::specs::Energy::hub_of))]
 pub fn hub_of(net: NetKwh, loss: u64) -> HubGrains
     requires { (net.0 ≤ 1000000000) × (loss ≤ 10000) }
     ensures { result ≡ hub_of net loss }
@@ -42,6 +121,7 @@ pub fn hub_of(net: NetKwh, loss: u64) -> HubGrains
 }
 
 // Gate energy of a commitment.
+#[tactic(auto, unfolding(crate::specs::Energy::gate_of))]
 pub fn gate_of(commitment: HubKwh, loss: u64) -> NetKwh
     requires { (commitment.0 ≤ 1000000000) × (loss < 10000) }
     ensures { result ≡ gate_of commitment loss }
@@ -53,6 +133,7 @@ pub fn gate_of(commitment: HubKwh, loss: u64) -> NetKwh
 }
 
 // A whole hub energy in grains.
+#[tactic(auto, unfolding(crate::specs::Energy::grains_of))]
 pub fn grains_of(kwh: HubKwh) -> HubGrains
     requires { kwh.0 ≤ 1000000000 }
     ensures { result ≡ grains_of kwh }
@@ -61,6 +142,7 @@ pub fn grains_of(kwh: HubKwh) -> HubGrains
 }
 
 // Rial for k kWh of availability, by the capacity payment factor and the base availability rate.
+#[tactic(auto, unfolding(crate::specs::Energy::pay_of))]
 pub fn pay_of(k: NetKwh, cpf: u64, bar: u64) -> u64
     requires { (k.0 ≤ 10000000) × (cpf ≤ 10000) × (bar ≤ 1000000) }
     ensures { result ≡ pay_of k cpf bar }
@@ -70,40 +152,7 @@ pub fn pay_of(k: NetKwh, cpf: u64, bar: u64) -> u64
     product / 1000000
 }
 
-// The lesser and the greater of two numbers.
-fn lesser_of(a: u64, b: u64) -> u64
-    ensures { result ≡ min a b }
-{
-    if a < b { a } else { b }
-}
-
-fn greater_of(a: u64, b: u64) -> u64
-    ensures { result ≡ max a b }
-{
-    if a < b { b } else { a }
-}
-
-// max(a - b, 0)
-fn difference(a: u64, b: u64) -> u64
-    ensures { result ≡ a - b }
-{
-    if a < b { 0 } else { a - b }
-}
-
 impl GrossKwh {
-    pub fn plus(self, more: GrossKwh) -> GrossKwh
-        requires { self.0 + more.0 < 2 ^ 64 }
-        ensures { result.0 ≡ self.0 + more.0 }
-    {
-        GrossKwh(self.0 + more.0)
-    }
-
-    pub fn lesser(self, other: GrossKwh) -> GrossKwh
-        ensures { result.0 ≡ min self.0 other.0 }
-    {
-        GrossKwh(lesser_of(self.0, other.0))
-    }
-
     // So many percent of it, rounded down.
     pub fn percent(self, share: u64) -> GrossKwh
         requires { self.0 * share < 2 ^ 64 }
@@ -112,34 +161,20 @@ impl GrossKwh {
         GrossKwh(self.0 * share / 100)
     }
 
+    pub fn lesser(self, other: GrossKwh) -> GrossKwh
+        ensures { result.0 ≡ min self.0 other.0 }
+    {
+        self.min(other)
+    }
+
     pub fn exceeds(self, other: GrossKwh) -> bool
         ensures { result ≡ ltb other.0 self.0 }
     {
-        other.0 < self.0
+        other < self
     }
 }
 
 impl NetKwh {
-    pub fn plus(self, more: NetKwh) -> NetKwh
-        requires { self.0 + more.0 < 2 ^ 64 }
-        ensures { result.0 ≡ self.0 + more.0 }
-    {
-        NetKwh(self.0 + more.0)
-    }
-
-    // max(self - other, 0)
-    pub fn above(self, other: NetKwh) -> NetKwh
-        ensures { result.0 ≡ self.0 - other.0 }
-    {
-        NetKwh(difference(self.0, other.0))
-    }
-
-    pub fn greater(self, other: NetKwh) -> NetKwh
-        ensures { result.0 ≡ max self.0 other.0 }
-    {
-        NetKwh(greater_of(self.0, other.0))
-    }
-
     pub fn times(self, factor: u64) -> NetKwh
         requires { factor * self.0 < 2 ^ 64 }
         ensures { result.0 ≡ factor * self.0 }
@@ -155,85 +190,63 @@ impl NetKwh {
         self.0 * factor
     }
 
+    pub fn greater(self, other: NetKwh) -> NetKwh
+        ensures { result.0 ≡ max self.0 other.0 }
+    {
+        self.max(other)
+    }
+
     pub fn exceeds(self, other: NetKwh) -> bool
         ensures { result ≡ ltb other.0 self.0 }
     {
-        other.0 < self.0
+        other < self
     }
 
     pub fn equals(self, other: NetKwh) -> bool
         ensures { result ≡ eqb self.0 other.0 }
     {
-        self.0 == other.0
+        self == other
     }
 }
 
 impl HubKwh {
-    pub fn plus(self, more: HubKwh) -> HubKwh
-        requires { self.0 + more.0 < 2 ^ 64 }
-        ensures { result.0 ≡ self.0 + more.0 }
-    {
-        HubKwh(self.0 + more.0)
-    }
-
-    // max(self - other, 0)
-    pub fn above(self, other: HubKwh) -> HubKwh
-        ensures { result.0 ≡ self.0 - other.0 }
-    {
-        HubKwh(difference(self.0, other.0))
-    }
-
     pub fn exceeds(self, other: HubKwh) -> bool
         ensures { result ≡ ltb other.0 self.0 }
     {
-        other.0 < self.0
+        other < self
     }
 
     pub fn equals(self, other: HubKwh) -> bool
         ensures { result ≡ eqb self.0 other.0 }
     {
-        self.0 == other.0
+        self == other
     }
 }
 
 impl HubGrains {
-    pub fn plus(self, more: HubGrains) -> HubGrains
-        requires { self.0 + more.0 < 2 ^ 64 }
-        ensures { result.0 ≡ self.0 + more.0 }
-    {
-        HubGrains(self.0 + more.0)
-    }
-
-    // max(self - other, 0)
-    pub fn above(self, other: HubGrains) -> HubGrains
-        ensures { result.0 ≡ self.0 - other.0 }
-    {
-        HubGrains(difference(self.0, other.0))
-    }
-
-    pub fn lesser(self, other: HubGrains) -> HubGrains
-        ensures { result.0 ≡ min self.0 other.0 }
-    {
-        HubGrains(lesser_of(self.0, other.0))
-    }
-
-    pub fn greater(self, other: HubGrains) -> HubGrains
-        ensures { result.0 ≡ max self.0 other.0 }
-    {
-        HubGrains(greater_of(self.0, other.0))
-    }
-
-    pub fn exceeds(self, other: HubGrains) -> bool
-        ensures { result ≡ ltb other.0 self.0 }
-    {
-        other.0 < self.0
-    }
-
     // What so many grains cost at one price in Rial/MWh, undivided: 10^7 times the Rial.
     pub fn cost(self, price: u64) -> u64
         requires { self.0 * price < 2 ^ 64 }
         ensures { result ≡ self.0 * price }
     {
         self.0 * price
+    }
+
+    pub fn lesser(self, other: HubGrains) -> HubGrains
+        ensures { result.0 ≡ min self.0 other.0 }
+    {
+        self.min(other)
+    }
+
+    pub fn greater(self, other: HubGrains) -> HubGrains
+        ensures { result.0 ≡ max self.0 other.0 }
+    {
+        self.max(other)
+    }
+
+    pub fn exceeds(self, other: HubGrains) -> bool
+        ensures { result ≡ ltb other.0 self.0 }
+    {
+        other < self
     }
 }

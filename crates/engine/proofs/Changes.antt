@@ -1,6 +1,7 @@
 -- A take, release or move on the table is what the rows of its call say of the book: where 10 and 11 pass, the places that are read and stored are those
 -- of its hour and units, and where they do not, the rest is not looked at.
 -- Assumes nothing.
+use Rattle.std.specs.Prelude.{Ok, Err}
 use mathlib.Core.Path.{◌≡◌, refl, sym, ◌∙◌, ap}
 use mathlib.Core.Bool.{Bool, true, false}
 use mathlib.Core.List.{List, ◌∷◌}
@@ -25,12 +26,9 @@ use Rattle.state.specs.Ranges.{limit_of, limit_at, book_holds}
 use Rattle.state.proofs.Entries.{entry_back}
 use Rattle.state.proofs.InRange.{book_in_range}
 use Rattle.ledger.specs.declared.Refusal.{Refusal}
-use Rattle.ledger.specs.declared.Answer.{Answer}
-use Rattle.ledger.specs.declared.Decision.{Decision}
-use Rattle.ledger.specs.declared.Verdict.{Verdict}
-use Rattle.ledger.specs.declared.Verdict.TheVariants.{Accepted as passes, Refused as fails}
+use Rattle.ledger.specs.Answers.{Answer, Verdict}
 use Rattle.ledger.specs.Ledger.{Call, take, release, move}
-use Rattle.ledger.specs.Calls.{Row, row, verdict, bad_hour, is_settled, held_kwh, last_kwh, with_held, take_tests, release_tests, move_tests, by_verdict, changed_to, refused_with, request_rows, accepted_in}
+use Rattle.ledger.specs.Calls.{Row, row, verdict, bad_hour, is_settled, held_kwh, last_kwh, with_held, take_tests, release_tests, move_tests, by_verdict, changed_to, refused_with, request_rows, accepted_in, Decision}
 use Rattle.ledger.proofs.Passed.{from_known, to_known}
 use Rattle.numbers.specs.Offers.{offer_in}
 use Rattle.numbers.proofs.Packed.{commitment_in, set_commitment}
@@ -80,9 +78,9 @@ module _ (terms : DayTerms) (offers : List ℕ) (t : Table) (entry count journal
   -- by the verdict
   module _ (units from to out into : ℕ) (after : Book) where
     leaves : (v : Verdict) → ◌≡◌ {A = Changed} (record { commitment = c'; answer = a }) (changed_by v t.commitment from to out into)
-        → (v ≡ passes → book_with (shifted t.commitment from to out into) ≡ after)
+        → (v ≡ Ok tt → book_with (shifted t.commitment from to out into) ≡ after)
         → Leaves units (by_verdict v (changed_to after count) (refused_with (book_in t) count 0))
-    leaves passes e stored =
+    leaves (Ok tt) e stored =
         record {
           book = ap (λ (x : Changed). book_with x.commitment) e ∙ stored refl;
           answer = ap (λ (x : Changed). x.answer) e;
@@ -90,7 +88,7 @@ module _ (terms : DayTerms) (offers : List ℕ) (t : Table) (entry count journal
           posts = λ l. absurd (omega arith);
           kept = λ j l. refl;
         }
-    leaves (fails r) e stored =
+    leaves (Err r) e stored =
         record {
           book = ap (λ (x : Changed). book_with x.commitment) e;
           answer = ap (λ (x : Changed). x.answer) e;

@@ -14,9 +14,8 @@ use Rattle.state.specs.Ranges.{book_holds}
 use Rattle.postings.specs.declared.Plan.{Plan}
 use Rattle.postings.specs.Journal.{count_holds}
 use Rattle.postings.specs.Plan.{plan_of}
-use Rattle.ledger.specs.declared.Decision.{Decision}
 use Rattle.ledger.specs.Ledger.{Call}
-use Rattle.ledger.specs.Calls.{request_of, request_decided}
+use Rattle.ledger.specs.Calls.{request_of, request_decided, Decision}
 use Rattle.numbers.specs.Offers.{OffersOf}
 use Rattle.numbers.specs.Numbers.{hour_items, book_of}
 use Rattle.engine.specs.declared.Done.{Done}

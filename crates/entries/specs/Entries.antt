@@ -1,15 +1,13 @@
 -- What `replay` prints of a call, as bytes: 10 is LF, 32 a space. "Each line ends in LF; a zero has no sign."
-use Rattle.std.specs.Prelude.{ℕ, cond, List, [], ◌∷◌, ◌++◌, ltb, ℤ, drop}
+use Rattle.std.specs.Prelude.{ℕ, cond, List, [], ◌∷◌, ◌++◌, ltb, ℤ, drop, Ok, Err}
 use Rattle.decimal.specs.Decimal.{digits, signed}
 use Rattle.text.specs.Text.{before}
 use Rattle.text.specs.Bytes.{bytes}
 use Rattle.lines.specs.declared.TextRefusal.{TextRefusal}
 use Rattle.ledger.specs.declared.Refusal.{Refusal}
 use Rattle.ledger.specs.declared.Refusal.TheVariants.{Text}
-use Rattle.ledger.specs.declared.Answer.{Answer}
-use Rattle.ledger.specs.declared.Answer.TheVariants.{Accepted, Posted, Refused}
-use Rattle.ledger.specs.declared.Verdict.{Verdict}
-use Rattle.ledger.specs.declared.Verdict.TheVariants.{Accepted as passes, Refused as fails}
+use Rattle.ledger.specs.Answers.{Answer, TotalAnswer}
+use Rattle.ledger.specs.declared.Effect.TheVariants.{Committed, Posted}
 use Rattle.ledger.specs.Numbers.{refusal_number, refusal_line}
 
 -- a number, or an amount in Rial, behind a space
@@ -30,14 +28,14 @@ sheet_refused t = bytes "sheet " ++ (refusal_text (Text t) ++ (10 ∷ []))
 
 -- "`accepted` (take, release, move), `accepted=POSTINGS` (settle, restate, void) (..) `refused=NUMBER`"
 unfoldable pub answer_text : Answer → List ℕ
-answer_text Accepted = bytes "accepted"
-answer_text (Posted n) = bytes "accepted=" ++ digits n
-answer_text (Refused r) = refusal_text r
+answer_text (Ok Committed) = bytes "accepted"
+answer_text (Ok (Posted n)) = bytes "accepted=" ++ digits n
+answer_text (Err r) = refusal_text r
 
 -- "`sum=RIAL` (total)"
-unfoldable pub total_text : Verdict → ℤ → List ℕ
-total_text passes sum = bytes "sum=" ++ signed sum
-total_text (fails r) sum = refusal_text r
+unfoldable pub total_text : TotalAnswer → List ℕ
+total_text (Ok sum) = bytes "sum=" ++ signed sum
+total_text (Err r) = refusal_text r
 
 -- the line at a place of the text, without its LF
 unfoldable pub line_text : List ℕ → ℕ → List ℕ

@@ -1,13 +1,12 @@
 -- The tables that `replay` prints at the end of the text. Hours and places are counted from 0 here: place k is that of unit k + 1.
-use Rattle.std.specs.Prelude.{ℕ, ◌+◌, cond, List, [], ◌∷◌, ◌++◌, eqb, ℤ}
+use Rattle.std.specs.Prelude.{ℕ, ◌+◌, cond, List, [], ◌∷◌, ◌++◌, eqb, Ok, Err}
 use Rattle.text.specs.Bytes.{bytes}
 use Rattle.units.specs.Units.{member_at}
 use Rattle.state.specs.declared.Book.{Book}
 use Rattle.state.specs.Sizes.{hours, places}
 use Rattle.state.specs.Book.{commitment_at, mark_at, energy_at, amounts_at, settled_mark}
 use Rattle.listing.specs.Listing.{joined, unit_line}
-use Rattle.ledger.specs.declared.Verdict.{Verdict}
-use Rattle.ledger.specs.declared.Verdict.TheVariants.{Accepted as passes, Refused as fails}
+use Rattle.ledger.specs.Answers.{TotalAnswer}
 use Rattle.entries.specs.Entries.{field, amount_field}
 
 -- "`commitment HOUR UNIT KWH` for each that is over 0, hour then unit ascending"
@@ -39,6 +38,6 @@ unfoldable pub tables : (units : ℕ) → Book → List ℕ
 tables units b = commitment_lines b ++ settled_hours units b
 
 -- "`total UNIT ITEM RIAL` for each unit of the plant and item": a unit that is not in the plant has no total
-unfoldable pub total_line : (unit item : ℕ) → Verdict → ℤ → List ℕ
-total_line unit item passes sum = bytes "total" ++ (field unit ++ (field item ++ (amount_field sum ++ (10 ∷ []))))
-total_line unit item (fails r) sum = []
+unfoldable pub total_line : (unit item : ℕ) → TotalAnswer → List ℕ
+total_line unit item (Ok sum) = bytes "total" ++ (field unit ++ (field item ++ (amount_field sum ++ (10 ∷ []))))
+total_line unit item (Err r) = []

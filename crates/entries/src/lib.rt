@@ -9,7 +9,7 @@ ghost use Rattle.entries.specs.Tables.{commitment_line, commitment_lines, tables
 
 use decimal::Writer;
 use energy::HubKwh;
-use ledger::{Answer, Refusal, TotalAnswer, Verdict};
+use ledger::{Effect, Refusal};
 use lines::TextRefusal;
 use state::Book;
 
@@ -36,12 +36,12 @@ fn put_amount(out: &mut Writer, z: i64)
 fn put_refusal(out: &mut Writer, refusal: Refusal)
     ensures { Wrote out.old out.new (refusal_text refusal) }
 {
-    let number = decisions::refusal_number(refusal);
+    let number = refusal.number();
     out.put_bytes(b"refused=");
     out.put_number(number);
     if number <= 4 {
         out.put_bytes(b" line=");
-        out.put_number(decisions::refusal_line(refusal));
+        out.put_number(refusal.line());
     }
 }
 
@@ -56,30 +56,29 @@ pub fn put_sheet_refused(out: &mut Writer, refusal: TextRefusal)
 }
 
 #[tactic(auto, using(decimal::proofs::Laws::written_append), unfolding(crate::specs::Entries::answer_text))]
-fn put_answer(out: &mut Writer, answer: Answer)
+fn put_answer(out: &mut Writer, answer: Result<Effect, Refusal>)
     ensures { Wrote out.old out.new (answer_text answer) }
 {
     match answer {
-        Answer::Accepted => out.put_bytes(b"accepted"),
-        Answer::Posted(n) => {
+        Ok(Effect::Committed) => out.put_bytes(b"accepted"),
+        Ok(Effect::Posted(n)) => {
             out.put_bytes(b"accepted=");
             out.put_number(n);
         }
-        Answer::Refused(refusal) => put_refusal(out, refusal),
+        Err(refusal) => put_refusal(out, refusal),
     }
 }
 
 #[tactic(auto, using(decimal::proofs::Laws::written_append), unfolding(crate::specs::Entries::total_text))]
-fn put_sum(out: &mut Writer, t: TotalAnswer)
-    ensures { Wrote out.old out.new (total_text t.verdict t.sum) }
+fn put_sum(out: &mut Writer, t: Result<i64, Refusal>)
+    ensures { Wrote out.old out.new (total_text t) }
 {
-    let verdict = t.verdict;
-    match verdict {
-        Verdict::Accepted => {
+    match t {
+        Ok(sum) => {
             out.put_bytes(b"sum=");
-            out.put_signed(t.sum);
+            out.put_signed(sum);
         }
-        Verdict::Refused(refusal) => put_refusal(out, refusal),
+        Err(refusal) => put_refusal(out, refusal),
     }
 }
 
@@ -95,7 +94,7 @@ fn put_line(out: &mut Writer, text: &[u8], from: usize)
 
 // The line of a call, and what it answers.
 #[tactic(auto, using(decimal::proofs::Laws::written_append), unfolding(crate::specs::Entries::entry_line))]
-pub fn put_call(out: &mut Writer, text: &[u8], from: usize, answer: Answer)
+pub fn put_call(out: &mut Writer, text: &[u8], from: usize, answer: Result<Effect, Refusal>)
     ensures { Wrote out.old out.new (entry_line text.now from (answer_text answer)) }
 {
     put_line(out, text, from);
@@ -106,8 +105,8 @@ pub fn put_call(out: &mut Writer, text: &[u8], from: usize, answer: Answer)
 
 // The line of a total, and what it answers.
 #[tactic(auto, using(decimal::proofs::Laws::written_append), unfolding(crate::specs::Entries::entry_line))]
-pub fn put_total(out: &mut Writer, text: &[u8], from: usize, t: TotalAnswer)
-    ensures { Wrote out.old out.new (entry_line text.now from (total_text t.verdict t.sum)) }
+pub fn put_total(out: &mut Writer, text: &[u8], from: usize, t: Result<i64, Refusal>)
+    ensures { Wrote out.old out.new (entry_line text.now from (total_text t)) }
 {
     put_line(out, text, from);
     out.put_byte(b' ');
@@ -163,15 +162,14 @@ pub fn put_tables(out: &mut Writer, units: u64, book: &Book)
 
 // A line of the table of totals, where the unit is in the plant.
 #[tactic(auto, using(decimal::proofs::Laws::written_append, decimal::proofs::Laws::written_none), unfolding(crate::specs::Tables::total_line))]
-pub fn put_listed(out: &mut Writer, unit: u64, item: u64, t: TotalAnswer)
-    ensures { Wrote out.old out.new (total_line unit item t.verdict t.sum) }
+pub fn put_listed(out: &mut Writer, unit: u64, item: u64, t: Result<i64, Refusal>)
+    ensures { Wrote out.old out.new (total_line unit item t) }
 {
-    let verdict = t.verdict;
-    if let Verdict::Accepted = verdict {
+    if let Ok(sum) = t {
         out.put_bytes(b"total");
         put_field(out, unit);
         put_field(out, item);
-        put_amount(out, t.sum);
+        put_amount(out, sum);
         out.put_byte(b'\n');
     }
 }

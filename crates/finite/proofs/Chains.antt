@@ -1,11 +1,11 @@
 -- What a chain over an array or a range gives, in the words of this crate: `from_fn` and `map` make a list by index, and `all` is a
 -- test over a range. Each holds because the closure, which changes nothing, is called at one index after the other.
-use Rattle.std.proofs.Common.{◌≡◌, refl, sym, ◌∙◌, ap, ℕ, zero, suc, ◌+◌, ◌≤◌, ◌<◌, List, length, get_or, slice_index_or, arith, add-one, Bool, true, false}
+use Rattle.std.proofs.Common.{◌≡◌, sym, ◌∙◌, ap, ℕ, zero, suc, ◌+◌, ◌≤◌, ◌<◌, List, length, get_or, arith, Bool, true, false}
 use mathlib.Core.Logic.{⊎_elim}
-use native.Mathlib.Nat.{eq-or-lt_of_le, not-suc-le-zero}
+use native.Mathlib.Nat.{eq-or-lt_of_le}
 use lib.Seq.{ext_get_or}
 use denote.Param.Members.{Mut, Called}
-use Rattle.std.specs.Array.{IsFromFnResultFrom, IsFromFnResult, MapsFrom, IsMapOf, IsElementAt}
+use Rattle.std.specs.Array.{IsFromFnResultFrom, IsFromFnResult, MapsFrom, IsMapOf}
 use Rattle.std.specs.Bool.{MatchBool}
 use Rattle.std.specs.List.{AllWithin, HoldsAt, FoldsTo, range_with_len}
 use Rattle.std.specs.Option.{MatchOption}
@@ -14,9 +14,8 @@ use Rattle.std.specs.Slice.Iter.{iter_rest}
 use Rattle.std.specs.declared.slice.Iter.{Iter}
 use Rattle.std.specs.declared.ops.Range.{Range}
 use Rattle.std.specs.declared.option.Option.{Option}
-use Rattle.std.specs.declared.option.Option.TheVariants.{None, Some}
 use Rattle.std.proofs.iter.Yields.{fronts, nat_range_steps}
-use Rattle.std.proofs.lemmas.Iterator.{YieldsList, YieldsList-from_slice, YieldsList-from_range, cases_from_all}
+use Rattle.std.proofs.lemmas.Iterator.{YieldsList-from_slice, YieldsList-from_range, cases_from_all}
 use Rattle.std.proofs.lemmas.List.FromFn.{length-range_with_len, get_or-range_with_len}
 use denote.Ref.{Bor}
 use Rattle.finite.specs.Finite.{tabulate, every}
@@ -71,7 +70,7 @@ module _ {F : Type 0} {A : Type 0} {g : Mut F (Bor A × Unit {0}) Bool} {f : F} 
   every_slice r is long ran pure =
       every_decided test xs n d r long
       (cases_from_all u f r (λ x. test x ≡ true) (λ x. test x ≡ false) ran (YieldsList-from_slice xs is)
-       (λ x q c. let p = pure x true q c in (p.0, sym p.1)) (λ x q c. sym (pure x false q c).1))
+      (λ x q c. let p = pure x true q c in (p.0, sym p.1)) (λ x q c. sym (pure x false q c).1))
 
 module _ {F : Type 0} {g : Mut F (ℕ × Unit {0}) Bool} {f : F} {s u : Range ℕ} (test : ℕ → Bool) (n : ℕ) where
   pub every_range : (r : Bool) → s ≡ record { start = 0; end = n }
@@ -79,7 +78,7 @@ module _ {F : Type 0} {g : Mut F (ℕ × Unit {0}) Bool} {f : F} {s u : Range �
       → ((x : ℕ) (y : Bool) (q : F) → Called g f (x, tt) y q → (q ≡ f) × (y ≡ test x)) → r ≡ every n test
   every_range r is ran pure =
       ranged r (cases_from_all u f r (λ x. test x ≡ true) (λ x. test x ≡ false) ran (YieldsList-from_range 0 n n is (omega arith))
-       (λ x q c. let p = pure x true q c in (p.0, sym p.1)) (λ x q c. sym (pure x false q c).1))
+      (λ x q c. let p = pure x true q c in (p.0, sym p.1)) (λ x q c. sym (pure x false q c).1))
     where
       at : (k : ℕ) → k < n → get_or (range_with_len 0 n) k 0 ≡ k
       at k l = get_or-range_with_len 0 n k 0 l ∙ omega arith

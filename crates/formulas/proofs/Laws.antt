@@ -1,5 +1,6 @@
 -- What the crates above use of the items: how large each can be.
 -- Assumes nothing.
+use mathlib.Core.Path.{◌≡◌}
 use mathlib.Core.Bool.{Bool, true, false}
 use Prim.Native.Nat.{ℕ, ◌+◌, ◌*◌, ◌-◌, ◌≤◌}
 use native.Mathlib.Nat.{mul-le-mul}
@@ -38,3 +39,7 @@ drawn_most reverse net ceiling loss r p =
     let d : reverse.0 - net.0 ≤ 8000000 = omega arith in
     let k : 10000 - loss ≤ 10000 = omega arith in
     omega (arith, mul-le-mul (mul-le-mul d p) k)
+
+-- its factors in the order in which the code multiplies them
+pub drawn_factors : (drawn kept ceiling : ℕ) → drawn * kept * ceiling ≡ drawn * ceiling * kept
+drawn_factors drawn kept ceiling = omega arith

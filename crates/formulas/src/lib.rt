@@ -2,12 +2,20 @@
 #![tactic(auto)]
 
 ghost use Rattle.std.specs.Prelude.{◌≡◌, ◌+◌, ◌^◌, ◌≤◌, ◌<◌};
-ghost use Rattle.formulas.specs.Items.{first_kind, kinds, deviation_of, in_order, in_season, declaration_ceiling, energy_pay, availability, refund_kwh, refund as the_refund, drawn_pay, paid as the_paid, owed as the_owed};
+ghost use Rattle.formulas.specs.Items.{first_kind, kinds, deviation_of, in_season, declaration_ceiling, energy_pay, availability, refund_kwh, refund as the_refund, drawn_pay, paid as the_paid, owed as the_owed};
 
-use energy::{GrossKwh, NetKwh};
+use energy::{Energy, GrossKwh, NetKwh};
 
 // The number of kinds that a deviation is split into: 2 to 8.
 pub const KINDS: usize = 7;
+
+// What availability is paid by: the hour's capacity payment factor and the base availability rate.
+#[derive(Clone, Copy)]
+pub struct AvailabilityRate {
+    pub cpf: u64,
+    pub bar: u64,
+    ghost in_range: { (cpf ≤ 10000) × (bar ≤ 1000000) },
+}
 
 // A unit's deviation by kind, from kind 2 on, in net kWh at the gate.
 #[derive(Clone, Copy)]
@@ -15,12 +23,14 @@ pub struct Deviations {
     pub kwh: [NetKwh; KINDS],
 }
 
-// The deviation of a kind.
-fn of_kind(d: Deviations, kind: usize) -> NetKwh
-    requires { (first_kind ≤ kind) × (kind < first_kind + kinds) }
-    ensures { result.0 ≡ (deviation_of d kind).0 }
-{
-    d.kwh[kind - 2]
+impl Deviations {
+    // The deviation of a kind.
+    fn of_kind(self, kind: usize) -> NetKwh
+        requires { (first_kind ≤ kind) × (kind < first_kind + kinds) }
+        ensures { result.0 ≡ (deviation_of self kind).0 }
+    {
+        self.kwh[kind - 2]
+    }
 }
 
 // An amount that is paid, and one that is owed: the magnitude negated.
@@ -39,6 +49,7 @@ pub fn owed(magnitude: u64) -> i64
 }
 
 // Item 1, by the undivided cost of the unit's grains.
+#[tactic(auto, unfolding(crate::specs::Items::energy_pay))]
 pub fn energy_pay(cost: u64) -> u64
     ensures { result ≡ energy_pay cost }
 {
@@ -46,72 +57,61 @@ pub fn energy_pay(cost: u64) -> u64
 }
 
 // Item 2: availability beyond the commitment's gate energy.
-pub fn availability_pay(declared: NetKwh, gate: NetKwh, cpf: u64, bar: u64) -> u64
-    requires { (declared.0 ≤ 10000000) × (cpf ≤ 10000) × (bar ≤ 1000000) }
-    ensures { result ≡ availability declared gate cpf bar }
+#[tactic(auto, unfolding(crate::specs::Items::availability))]
+pub fn availability_pay(declared: NetKwh, gate: NetKwh, rate: AvailabilityRate) -> u64
+    requires { declared.0 ≤ 10000000 }
+    ensures { result ≡ availability declared gate rate.cpf rate.bar }
 {
-    energy::pay_of(declared.above(gate), cpf, bar)
-}
-
-// Whether a day comes no later than another.
-fn in_order(month: u64, day: u64, other_month: u64, other_day: u64) -> bool
-    ensures { result ≡ in_order month day other_month other_day }
-{
-    if month < other_month {
-        return true;
-    }
-    if month == other_month {
-        return day <= other_day;
-    }
-    false
+    energy::pay_of(declared.above(gate), rate.cpf, rate.bar)
 }
 
 // Whether a day lies in the season, from 15/3 to 15/6.
+#[tactic(auto, using(std::proofs::lemmas::Bool::Decides::nat_tests), unfolding(crate::specs::Items::in_season))]
 pub fn in_season(month: u64, day: u64) -> bool
     ensures { result ≡ in_season month day }
 {
-    if in_order(3, 15, month, day) {
-        return in_order(month, day, 6, 15);
-    }
-    false
+    (3, 15) <= (month, day) && (month, day) <= (6, 15)
 }
 
 // The declaration ceiling A, by the practical power with the main fuel.
+#[tactic(auto, unfolding(crate::specs::Items::declaration_ceiling))]
 pub fn declaration_ceiling(season: bool, power: GrossKwh) -> GrossKwh
     requires { power.0 ≤ 1000000000 }
     ensures { result ≡ declaration_ceiling season power }
 {
     if season {
-        return power.plus(power.percent(6).lesser(GrossKwh(6000)));
+        return power.plus(power.percent(6).min(GrossKwh(6000)));
     }
-    power.plus(power.percent(3).lesser(GrossKwh(3000)))
+    power.plus(power.percent(3).min(GrossKwh(3000)))
 }
 
 // The kWh that item 3 takes back, by D, `real`, the deviations and net(A): what `real`, d5 and d7 leave of D, or what is above net(A).
+#[tactic(auto, unfolding(crate::specs::Items::refund_kwh))]
 pub fn refund_kwh(declared: NetKwh, real: NetKwh, d: Deviations, allowed: NetKwh) -> NetKwh
     ensures { result ≡ refund_kwh declared real d allowed }
 {
     let unable = declared.above(real);
-    let short = unable.above(of_kind(d, 5)).above(of_kind(d, 7));
-    short.greater(declared.above(allowed))
+    let short = unable.above(d.of_kind(5)).above(d.of_kind(7));
+    short.max(declared.above(allowed))
 }
 
 // Item 3, a magnitude.
+#[tactic(auto, unfolding(crate::specs::Items::refund_kwh, crate::specs::Items::refund))]
 pub fn refund(
     declared: NetKwh,
     real: NetKwh,
     d: Deviations,
     allowed: NetKwh,
-    cpf: u64,
-    bar: u64,
+    rate: AvailabilityRate,
 ) -> u64
-    requires { (declared.0 ≤ 10000000) × (cpf ≤ 10000) × (bar ≤ 1000000) }
-    ensures { result ≡ the_refund declared real d allowed cpf bar }
+    requires { declared.0 ≤ 10000000 }
+    ensures { result ≡ the_refund declared real d allowed rate.cpf rate.bar }
 {
-    energy::pay_of(refund_kwh(declared, real, d, allowed), cpf, bar)
+    energy::pay_of(refund_kwh(declared, real, d, allowed), rate.cpf, rate.bar)
 }
 
 // Item 5, a magnitude: energy drawn from the grid, at the ceiling price.
+#[tactic(auto, using(crate::proofs::Laws::drawn_factors), unfolding(energy::specs::Energy::hub_of, crate::specs::Items::energy_pay, crate::specs::Items::drawn_pay))]
 pub fn drawn_pay(reverse: NetKwh, net: NetKwh, ceiling: u64, loss: u64) -> u64
     requires { (reverse.0 ≤ 10000000) × (ceiling ≤ 10000000) × (loss ≤ 10000) }
     ensures { result ≡ drawn_pay reverse net ceiling loss }

@@ -1,5 +1,6 @@
 -- A call is accepted exactly when none of its rows holds: the verdict is the first row that holds, and every accepted call's answer is no refusal.
 -- Assumes nothing.
+use Rattle.std.specs.Prelude.{Ok, Err}
 use mathlib.Core.Path.{◌≡◌, refl, ◌∙◌}
 use mathlib.Core.Bool.{Bool, true, false, cond, not, ◌&&◌}
 use mathlib.Core.List.{List, [], ◌∷◌}
@@ -7,22 +8,19 @@ use Prim.Native.Nat.{ℕ}
 use lib.Dec.{eqb}
 use Rattle.sheet.specs.declared.Sheet.{Sheet}
 use Rattle.state.specs.declared.Book.{Book}
-use Rattle.ledger.specs.declared.Verdict.{Verdict}
-use Rattle.ledger.specs.declared.Verdict.TheVariants.{Accepted as passes, Refused as fails}
-use Rattle.ledger.specs.declared.Request.{Request}
-use Rattle.ledger.specs.declared.Decision.{Decision}
-use Rattle.ledger.specs.Calls.{Row, verdict, none_hold, is_accepted, rows_of, by_verdict, refused_with, accepted_in, decided}
+use Rattle.ledger.specs.Answers.{Verdict}
+use Rattle.ledger.specs.Calls.{Row, verdict, none_hold, is_accepted, rows_of, by_verdict, refused_with, accepted_in, decided, Request, Decision}
 
 abbrev passing : Verdict → Bool
-passing passes = true
-passing (fails r) = false
+passing (Ok tt) = true
+passing (Err r) = false
 
 exact : (rs : List Row) → passing (verdict rs) ≡ none_hold rs
 unfolding verdict none_hold
 exact [] = refl
 exact (r ∷ rs) = by r.holds (exact rs)
   where
-    by : (t : Bool) → passing (verdict rs) ≡ none_hold rs → passing (cond t (fails r.refusal) (verdict rs)) ≡ (not t && none_hold rs)
+    by : (t : Bool) → passing (verdict rs) ≡ none_hold rs → passing (cond t (Err r.refusal) (verdict rs)) ≡ (not t && none_hold rs)
     by true e = refl
     by false e = e
 
@@ -47,5 +45,5 @@ module _ (s : Sheet) (b : Book) (q : Request) (count places : ℕ) (posted : Boo
   accepted_exactly = by (verdict (rows_of s b q count places posted)) ∙ exact (rows_of s b q count places posted)
     where
       by : (v : Verdict) → is_accepted (by_verdict v (accepted_in s b q count) (refused_with b count q.start)).answer ≡ passing v
-      by passes = effect_accepted
-      by (fails r) = refl
+      by (Ok tt) = effect_accepted
+      by (Err r) = refl

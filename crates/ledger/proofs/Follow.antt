@@ -24,10 +24,9 @@ use Rattle.state.proofs.InRange.{limit_in}
 use Rattle.postings.specs.declared.Posting.{Posting}
 use Rattle.postings.specs.Plan.{padded}
 use Rattle.ledger.specs.declared.Refusal.{Refusal}
-use Rattle.ledger.specs.declared.Decision.{Decision}
 use Rattle.ledger.specs.Numbers.{refusal_number, refusal_line, reply_of}
 use Rattle.ledger.specs.Ledger.{Kept, none, kept, Ledger, Outcome, stands, energy_for, amount_for, last_offer, over_offer, changed, bad_hour as bad_hour_of, with_held as with_held_of}
-use Rattle.ledger.specs.Calls.{State, bad_hour, held_kwh, last_kwh, is_settled, refused_with, changed_to, with_held}
+use Rattle.ledger.specs.Calls.{State, bad_hour, held_kwh, last_kwh, is_settled, refused_with, changed_to, with_held, Decision}
 use Rattle.ledger.specs.Agrees.{mark_of, Agrees}
 use Rattle.ledger.proofs.Rows.{refused_by}
 use Rattle.ledger.proofs.Held.{held_at}

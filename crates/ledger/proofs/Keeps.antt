@@ -2,6 +2,7 @@
 -- and void store the settlement's energies and amounts, or zeros, and pass 42, and each posting is the difference of two amounts within ±10^11.
 -- A refused call changes nothing. No call changes the number of places either.
 -- Assumes nothing.
+use Rattle.std.specs.Prelude.{Ok, Err}
 use mathlib.Core.Path.{◌≡◌, refl, ap, sym, ◌∙◌, subst}
 use mathlib.Core.Bool.{Bool, true, false, ◌&&◌}
 use mathlib.Core.List.{List, ◌++◌}
@@ -41,8 +42,7 @@ use Rattle.postings.specs.Plan.{postings_of, plan_of, padded}
 use Rattle.postings.proofs.Counted.{count_list, count_most, count_back}
 use Rattle.postings.proofs.Posted.{postings_length, postings_hold}
 use Rattle.postings.proofs.Totals.{posted_append}
-use Rattle.ledger.specs.declared.Verdict.{Verdict}
-use Rattle.ledger.specs.declared.Verdict.TheVariants.{Accepted as passes, Refused as fails}
+use Rattle.ledger.specs.Answers.{Verdict}
 use Rattle.ledger.specs.Ledger.{Call, take, release, move, settle, restate, void}
 use Rattle.ledger.specs.Calls.{State, Row, verdict, held_kwh, last_kwh, short_of, text_rows, record_rows, request_rows, rows_of, by_verdict, refused_with, changed_to, with_held, posted_with, recorded_at, recorded_in, accepted_in, decided, decided_on, fits_in, carried_out, request_of, record_request}
 use Rattle.ledger.proofs.Accepted.{given_range}
@@ -58,7 +58,7 @@ pub record Kept (s : Sheet) (st : State) : Type 0 where
   pub fits : fits_in s st ≡ true
 
 -- a text that is not refused was read
-text_passed : (r : ReadAnswer) (rs : List Row) → verdict (text_rows r ++ rs) ≡ passes → (place : ℕ) × (r ≡ Read place)
+text_passed : (r : ReadAnswer) (rs : List Row) → verdict (text_rows r ++ rs) ≡ Ok tt → (place : ℕ) × (r ≡ Read place)
 text_passed (Read place) rs e = (place, refl)
 text_passed (Refused x) rs e = absurd (let p = (passed _ _ e).0 in let z : ◌≡◌ {A = ℕ} 0 1 = cc in omega arith)
 
@@ -196,7 +196,7 @@ module _ (s : Sheet) (st : State) where
       -- what the rows of an accepted call tell
       given_keeps : (kind : ℕ) (text : List ℕ) (start : ℕ) (standing : Row)
           → let q = record_request s kind text start in
-          verdict (text_rows q.answer ++ record_rows s q.read standing st.count (length st.journal)) ≡ passes
+          verdict (text_rows q.answer ++ record_rows s q.read standing st.count (length st.journal)) ≡ Ok tt
           → Kept s (after st (recorded_in s st.book q st.count))
       given_keeps kind text start standing e =
           let q = record_request s kind text start in
@@ -204,7 +204,7 @@ module _ (s : Sheet) (st : State) where
           record_keeps q.read (given_range s t text start p.0 p.1)
           (record_short s st.book q st.count (length st.journal) standing (rest (text_rows q.answer) _ e))
 
-      accepted_keeps : (c : Call) → verdict (request_rows s st.book (request_of s c) st.count (length st.journal)) ≡ passes
+      accepted_keeps : (c : Call) → verdict (request_rows s st.book (request_of s c) st.count (length st.journal)) ≡ Ok tt
           → Kept s (after st (accepted_in s st.book (request_of s c) st.count))
       unfolding request_rows accepted_in
       accepted_keeps (take hour unit kwh) e =
@@ -257,8 +257,8 @@ carried_keeps s st c t k = by (verdict rows) refl
 
     by : (v : Verdict) → verdict rows ≡ v
         → Kept s (after st (by_verdict v (accepted_in s st.book (request_of s c) st.count) (refused_with st.book st.count (request_of s c).start)))
-    by passes e = accepted_keeps s st k t c (passed _ _ (passed _ _ e).1).1
-    by (fails r) e = subst (Kept s) (sym (unposted st st.book)) k
+    by (Ok tt) e = accepted_keeps s st k t c (passed _ _ (passed _ _ e).1).1
+    by (Err r) e = subst (Kept s) (sym (unposted st st.book)) k
 
 -- the number of places
 pasted_long : (journal rows : List Posting) (at n : ℕ) → n ≤ length journal - at → n ≤ length rows → length (paste journal at rows n) ≡ length journal

@@ -1,6 +1,7 @@
 -- A list of calls in two parts: the second part comes upon what the first left, and changes none of its replies. Where 9 or 12 holds, every call is
 -- refused with it and changes nothing, so it holds for the next call too; and a void of hour 0 is refused with 10 where neither holds.
 -- Assumes nothing.
+use Rattle.std.specs.Prelude.{Err}
 use mathlib.Core.Path.{◌≡◌, refl, ap, ◌∙◌}
 use mathlib.Core.Bool.{Bool, true, false, not}
 use mathlib.Core.List.{List, [], ◌∷◌, ◌++◌, map}
@@ -11,12 +12,9 @@ use Rattle.sheet.specs.declared.Sheet.{Sheet}
 use Rattle.sheet.specs.Ranges.{sheet_holds}
 use Rattle.ledger.specs.declared.Refusal.{Refusal}
 use Rattle.ledger.specs.declared.Refusal.TheVariants.{SheetRange, BookRange, HourRange}
-use Rattle.ledger.specs.declared.Request.{Request}
-use Rattle.ledger.specs.declared.Decision.{Decision}
-use Rattle.ledger.specs.declared.Answer.TheVariants.{Refused}
 use Rattle.ledger.specs.Numbers.{reply_of}
 use Rattle.ledger.specs.Ledger.{Call, take, release, move, settle, restate, void, Reply, start_of}
-use Rattle.ledger.specs.Calls.{State, Moved, Ran, row, verdict, request_rows, by_verdict, refused_with, accepted_in, decided, decided_on, fits_in, carried_out, request_of, ran_from}
+use Rattle.ledger.specs.Calls.{State, Moved, Ran, row, verdict, request_rows, by_verdict, refused_with, accepted_in, decided, decided_on, fits_in, carried_out, request_of, ran_from, Request, Decision}
 use Rattle.ledger.proofs.Follow.{after, unposted}
 
 -- two parts of a list
@@ -59,11 +57,11 @@ start_same s (void hour) = refl
 
 module _ (s : Sheet) (st : State) where
   refused_with_lem : (c : Call) (r : Refusal) → decided_on s st (request_of s c) ≡ refused_with st.book st.count (request_of s c).start r
-      → carried_out s st (request_of s c) ≡ record { reply = reply_of (Refused r) (start_of c); state = st }
+      → carried_out s st (request_of s c) ≡ record { reply = reply_of (Err r) (start_of c); state = st }
   unfolding carried_out
   refused_with_lem c r e =
       ap {B = Moved} (λ (d : Decision). record { reply = reply_of d.answer d.place; state = after st d }) e
-      ∙ (λ i. record { reply = reply_of (Refused r) (start_same s c i); state = unposted st st.book i })
+      ∙ (λ i. record { reply = reply_of (Err r) (start_same s c i); state = unposted st st.book i })
 
   -- what a request comes to, by whether 9 and 12 hold
   abbrev by : (sheet_fits book_fits : Bool) → Request → Decision

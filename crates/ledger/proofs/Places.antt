@@ -1,6 +1,7 @@
 -- What is decided fits the places that are free: a call that posts passed 42, and five postings a unit are at most 40, the rows of a plan.
 -- Where the count does not hold, 12 is met whatever the postings are.
 -- Assumes nothing.
+use Rattle.std.specs.Prelude.{Ok, Err}
 use mathlib.Core.Path.{◌≡◌, refl, ap}
 use mathlib.Core.Bool.{Bool, true, false, cond, not, ◌&&◌}
 use mathlib.Core.List.{List, [], ◌∷◌, ◌++◌}
@@ -21,25 +22,22 @@ use Rattle.postings.specs.Journal.{count_holds}
 use Rattle.postings.specs.Plan.{plan_of}
 use Rattle.postings.proofs.Posted.{plan_length}
 use Rattle.ledger.specs.declared.Refusal.TheVariants.{SheetRange, BookRange, HourStands, HourOpen}
-use Rattle.ledger.specs.declared.Verdict.{Verdict}
-use Rattle.ledger.specs.declared.Verdict.TheVariants.{Accepted as passes, Refused as fails}
-use Rattle.ledger.specs.declared.Request.{Request}
-use Rattle.ledger.specs.declared.Decision.{Decision}
-use Rattle.ledger.specs.Calls.{Row, row, verdict, is_settled, held_kwh, short_of, text_rows, take_rows, release_rows, move_rows, record_rows, void_rows, request_rows, rows_of, by_verdict, refused_with, changed_to, recorded_in, voided_at, with_held, accepted_in, decided, request_decided, book_fits}
+use Rattle.ledger.specs.Answers.{Verdict}
+use Rattle.ledger.specs.Calls.{Row, row, verdict, is_settled, held_kwh, short_of, text_rows, take_rows, release_rows, move_rows, record_rows, void_rows, request_rows, rows_of, by_verdict, refused_with, changed_to, recorded_in, voided_at, with_held, accepted_in, decided, request_decided, book_fits, Request, Decision}
 
 abbrev FitsIn : ℕ → Decision → Type 0
 FitsIn places d = (d.n ≤ 40) × (d.n ≤ places - d.at) × (d.n ≤ length d.plan.row)
 
 -- where no row's condition holds
-pub passed : (r : Row) (rs : List Row) → verdict (r ∷ rs) ≡ passes → (r.holds ≡ false) × (verdict rs ≡ passes)
+pub passed : (r : Row) (rs : List Row) → verdict (r ∷ rs) ≡ Ok tt → (r.holds ≡ false) × (verdict rs ≡ Ok tt)
 unfolding verdict
 passed r rs e = by r.holds refl e
   where
-    by : (t : Bool) → r.holds ≡ t → cond t (fails r.refusal) (verdict rs) ≡ passes → (r.holds ≡ false) × (verdict rs ≡ passes)
+    by : (t : Bool) → r.holds ≡ t → cond t (Err r.refusal) (verdict rs) ≡ Ok tt → (r.holds ≡ false) × (verdict rs ≡ Ok tt)
     by true h p = absurd (let z : ◌≡◌ {A = ℕ} 0 1 = cc in omega arith)
     by false h p = (h, p)
 
-pub rest : (xs ys : List Row) → verdict (xs ++ ys) ≡ passes → verdict ys ≡ passes
+pub rest : (xs ys : List Row) → verdict (xs ++ ys) ≡ Ok tt → verdict ys ≡ Ok tt
 rest [] ys e = e
 rest (x ∷ xs) ys e = rest xs ys (passed x (xs ++ ys) e).1
 
@@ -61,7 +59,7 @@ module _ (s : Sheet) (b : Book) (q : Request) (count places : ℕ) where
       let free = ltb-false (min places 100000 - count) (5 * unit_count s.units) e in
       (omega (arith, some), omega (arith, free), omega (arith, some, plan_length hour s.units old new))
 
-  pub record_short : (r : Row) → verdict (record_rows s q.read r count places) ≡ passes → short_of s.units count places ≡ false
+  pub record_short : (r : Row) → verdict (record_rows s q.read r count places) ≡ Ok tt → short_of s.units count places ≡ false
   record_short r e =
       let a = passed _ _ e in
       let c = passed _ _ a.1 in
@@ -69,7 +67,7 @@ module _ (s : Sheet) (b : Book) (q : Request) (count places : ℕ) where
       let f = passed _ _ d.1 in
       (passed _ _ f.1).0
 
-  pub void_short : verdict (void_rows s b q.hour count places) ≡ passes → short_of s.units count places ≡ false
+  pub void_short : verdict (void_rows s b q.hour count places) ≡ Ok tt → short_of s.units count places ≡ false
   void_short e =
       let a = passed _ _ e in
       let c = passed _ _ a.1 in
@@ -84,7 +82,7 @@ module _ (s : Sheet) (b : Book) (q : Request) (count places : ℕ) where
         (cond k4 (text_rows q.answer ++ record_rows s q.read (row HourStands (is_settled b q.read.hour)) count places)
         (cond k5 (text_rows q.answer ++ record_rows s q.read (row HourOpen (not (is_settled b q.read.hour))) count places)
         (void_rows s b q.hour count places))))))
-        ≡ passes
+        ≡ Ok tt
         → FitsIn places
         (cond k1 (changed_to (with_held b q.hour q.unit (held_kwh b q.hour q.unit + q.kwh)) count)
         (cond k2 (changed_to (with_held b q.hour q.unit (held_kwh b q.hour q.unit - q.kwh)) count)
@@ -101,7 +99,7 @@ module _ (s : Sheet) (b : Book) (q : Request) (count places : ℕ) where
     by_kind false false false false true e = posted_fits t (record_short _ (rest (text_rows q.answer) _ e)) _ _ _
     by_kind false false false false false e = posted_fits t (void_short e) _ _ _
 
-    accepted_fits : verdict (request_rows s b q count places) ≡ passes → FitsIn places (accepted_in s b q count)
+    accepted_fits : verdict (request_rows s b q count places) ≡ Ok tt → FitsIn places (accepted_in s b q count)
     unfolding request_rows accepted_in
     accepted_fits e = by_kind (eqb q.kind 1) (eqb q.kind 2) (eqb q.kind 3) (eqb q.kind 4) (eqb q.kind 5) e
 
@@ -110,11 +108,11 @@ module _ (s : Sheet) (b : Book) (q : Request) (count places : ℕ) where
   decided_in posted = by (verdict (rows_of s b q count places posted)) refl
     where
       by : (v : Verdict) → verdict (rows_of s b q count places posted) ≡ v → FitsIn places (by_verdict v (accepted_in s b q count) (refused_with b count q.start))
-      by passes e =
+      by (Ok tt) e =
           let a = passed _ _ e in
           let c = passed _ _ a.1 in
           accepted_fits (not-false (sheet_holds s) a.0) c.1
-      by (fails r) e = (omega arith, omega arith, omega arith)
+      by (Err r) e = (omega arith, omega arith, omega arith)
 
   pub decided_fits : (posted : Bool) → ((decided s b q count places posted).n ≤ 40) × ((decided s b q count places posted).n ≤ places - (decided s b q count places posted).at)
   decided_fits posted = let d = decided_in posted in (d.0, d.1)

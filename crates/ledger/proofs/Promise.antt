@@ -1,6 +1,7 @@
 -- The promise about every list of calls: each field of Demand from the calls that follow the ledger, and from what the ledger's calls and
 -- replies reckon up to.
 -- Assumes nothing.
+use Rattle.std.specs.Prelude.{Ok}
 use mathlib.Core.Path.{◌≡◌, refl, ap, sym, ◌∙◌}
 use mathlib.Core.Bool.{Bool, true, false}
 use mathlib.Core.List.{List}
@@ -29,7 +30,6 @@ use Rattle.state.specs.Book.{commitment_at, energy_at, amount_at, hour_commitmen
 use Rattle.postings.specs.declared.Posting.{Posting}
 use Rattle.postings.specs.Journal.{posted_hold, total_of}
 use Rattle.postings.proofs.Totals.{total_nothing}
-use Rattle.ledger.specs.declared.Verdict.TheVariants.{Accepted}
 use Rattle.ledger.specs.Ledger.{Call, void, Kept, kept, Ledger, Reply, empty_ledger, hour_held, energy_for, amount_for, amount_in, run}
 use Rattle.ledger.specs.Reckoned.{accepted, took, gave, sum_z}
 use Rattle.ledger.specs.Calls.{State, book_fits, ran_from, begun}
@@ -136,7 +136,7 @@ module _ (sheet : Sheet) (journal : List Posting) (calls : List Call) where
   by_item false f t x y h = refl
   by_item true false t x y h = refl
   by_item true true false x y h = refl
-  by_item true true true x y h = λ i. record { verdict = Accepted; sum = h refl i }
+  by_item true true true x y h = λ i. Ok (h refl i)
 
   of_item_lem : (unit item : ℕ) → item_of sheet unit item ≡ true
       → total_of unit item (take st.count st.journal)

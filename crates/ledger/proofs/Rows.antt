@@ -1,16 +1,15 @@
 -- Two ladders of tests side by side: where each row of the book's list has the number of the ledger's condition beside it, and both hold
 -- alike as long as those before do not, the two lists decide alike.
 -- Assumes nothing.
+use Rattle.std.specs.Prelude.{Err}
 use mathlib.Core.Path.{◌≡◌, refl, ◌∙◌, subst}
 use mathlib.Core.Bool.{Bool, true, false, cond}
 use mathlib.Core.List.{List, [], ◌∷◌}
 use Prim.Native.Nat.{ℕ}
 use Rattle.ledger.specs.declared.Refusal.{Refusal}
-use Rattle.ledger.specs.declared.Verdict.TheVariants.{Refused as fails}
-use Rattle.ledger.specs.declared.Decision.{Decision}
 use Rattle.ledger.specs.Numbers.{refusal_number, refusal_line}
 use Rattle.ledger.specs.Ledger.{Ledger, Outcome, Condition, first_of}
-use Rattle.ledger.specs.Calls.{Row, verdict, by_verdict}
+use Rattle.ledger.specs.Calls.{Row, verdict, by_verdict, Decision}
 use Rattle.ledger.proofs.Told.{Clear, none, more}
 
 pub data Beside : List Row → List Condition → Type 0 where
@@ -36,6 +35,6 @@ module _ (P : Decision → Outcome → Type 0) (l : Ledger) (start : ℕ) (d : D
       numbers = subst (λ (x : ℕ). P (f r.refusal) (refused_by l start x c.line)) n (subst (λ (x : ℕ). P (f r.refusal) (refused_by l start (refusal_number r.refusal) x)) i (refused r.refusal))
 
       by : (t : Bool) → c.holds ≡ t → (c.holds ≡ false → P (by_verdict (verdict rs) d f) (first_of cs l start o))
-          → P (by_verdict (cond r.holds (fails r.refusal) (verdict rs)) d f) (cond t (refused_by l start c.number c.line) (first_of cs l start o))
+          → P (by_verdict (cond r.holds (Err r.refusal) (verdict rs)) d f) (cond t (refused_by l start c.number c.line) (first_of cs l start o))
       by true e rest = rw (h ∙ e) numbers
       by false e rest = rw (h ∙ e) (rest e)

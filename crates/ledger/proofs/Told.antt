@@ -12,7 +12,6 @@ use Rattle.lines.specs.declared.ReadAnswer.TheVariants.{Read, Refused}
 use Rattle.record_text.proofs.Laws.{refused_number}
 use Rattle.sheet.specs.declared.Sheet.{Sheet}
 use Rattle.ledger.specs.Ledger.{Call, take, release, move, settle, restate, void, Ledger, Outcome, Condition, when, first_of, always, text_condition, take_conditions, release_conditions, move_conditions, record_conditions, void_conditions, stands, given, conditions_of, start_of, effect_of, step}
-use Rattle.ledger.specs.Reckoned.{accepted}
 
 -- every condition has a refusal's number
 pub data Numbered : List Condition → Type 0 where

@@ -1,13 +1,13 @@
 -- The calls on the book and the journal (01, Book and journal): the rows (refusal, condition) of each call in the order in which they are
 -- checked, and what an accepted call changes and posts.
-use Rattle.std.specs.Prelude.{ℕ, ◌+◌, ◌-◌, ◌*◌, min, Bool, true, false, cond, not, ◌&&◌, ◌||◌, List, [], ◌∷◌, ◌++◌, ltb, eqb, length, take as first_of}
+use Rattle.std.specs.Prelude.{ℕ, ◌+◌, ◌-◌, ◌*◌, min, Bool, true, false, cond, not, ◌&&◌, ◌||◌, List, [], ◌∷◌, ◌++◌, ltb, eqb, length, take as first_of, Ok, Err}
 use Rattle.std.proofs.Math.Seq.{paste}
 use Rattle.energy.specs.declared.GrossKwh.{GrossKwh}
 use Rattle.units.specs.Units.{is_member, unit_count}
 use Rattle.lines.specs.declared.ReadAnswer.{ReadAnswer}
 use Rattle.lines.specs.declared.ReadAnswer.TheVariants.{Read as placeRead, Refused as text_refused}
 use Rattle.sheet.specs.declared.Sheet.{Sheet}
-use Rattle.lines.specs.declared.TextRefusal.TheVariants.{TextEnds}
+use Rattle.lines.specs.Refusals.{no_start}
 use Rattle.sheet.specs.Ranges.{sheet_holds, monthly_of}
 use Rattle.record.specs.declared.Record.{Record}
 use Rattle.record.specs.Empty.{no_record}
@@ -26,15 +26,33 @@ use Rattle.postings.specs.Journal.{count_holds, posted_hold}
 use Rattle.postings.specs.Plan.{plan_of, padded}
 use Rattle.ledger.specs.declared.Refusal.{Refusal}
 use Rattle.ledger.specs.declared.Refusal.TheVariants.{Text, SheetRange, HourRange, UnitUnknown, BookRange, HourSettled, NoAmount, OverOffer, HeldLess, SameUnit, Minutes, Readings, Proportions, HourStands, HourOpen, NoPlaces}
-use Rattle.ledger.specs.declared.Verdict.{Verdict}
-use Rattle.ledger.specs.declared.Verdict.TheVariants.{Accepted as passes, Refused as fails}
-use Rattle.ledger.specs.declared.Answer.{Answer}
-use Rattle.ledger.specs.declared.Answer.TheVariants.{Accepted, Posted, Refused}
-use Rattle.ledger.specs.declared.Request.{Request}
-use Rattle.ledger.specs.declared.Decision.{Decision}
+use Rattle.ledger.specs.Answers.{Verdict, Answer}
+use Rattle.ledger.specs.declared.Effect.TheVariants.{Committed, Posted}
 use Rattle.ledger.specs.declared.Outcome.{Outcome}
 use Rattle.ledger.specs.Ledger.{Call, take, release, move, settle, restate, void, Reply}
 use Rattle.ledger.specs.Numbers.{reply_of}
+
+-- a call with what was read of its text: kinds 1 to 6 are take, release, move, settle, restate and void; settle and restate carry what was read
+-- of the record's text from `start` on
+pub record Request : Type 0 where
+  pub kind : ℕ
+  pub hour : ℕ
+  pub unit : ℕ
+  pub to : ℕ
+  pub kwh : ℕ
+  pub start : ℕ
+  pub answer : ReadAnswer
+  pub read : Record
+
+-- what a call comes to: n postings of the plan, stored from place `at` on; the answer and the text place; the count and the book after it
+pub record Decision : Type 0 where
+  pub plan : Plan
+  pub at : ℕ
+  pub n : ℕ
+  pub answer : Answer
+  pub place : ℕ
+  pub count : ℕ
+  pub book : Book
 
 -- a row of the table of refusals
 pub record Row : Type 0 where
@@ -46,8 +64,8 @@ row r b = record { refusal = r; holds = b }
 
 -- "Calls check in the table's order": the first condition that holds is the refusal
 unfoldable pub verdict : List Row → Verdict
-verdict [] = passes
-verdict (r ∷ rs) = cond r.holds (fails r.refusal) (verdict rs)
+verdict [] = Ok tt
+verdict (r ∷ rs) = cond r.holds (Err r.refusal) (verdict rs)
 
 -- no row's condition holds
 unfoldable pub none_hold : List Row → Bool
@@ -56,9 +74,9 @@ none_hold (r ∷ rs) = not r.holds && none_hold rs
 
 -- a call is accepted where its answer is no refusal
 abbrev pub is_accepted : Answer → Bool
-is_accepted Accepted = true
-is_accepted (Posted n) = true
-is_accepted (Refused r) = false
+is_accepted (Ok Committed) = true
+is_accepted (Ok (Posted n)) = true
+is_accepted (Err r) = false
 
 abbrev pub bad_hour : ℕ → Bool
 bad_hour hour = ltb hour 1 || ltb 24 hour
@@ -174,11 +192,11 @@ no_plan = record { row = padded [] }
 
 -- a refusal "returns its number (..); book, journal, count and text place are unchanged"
 abbrev pub refused_with : Book → (count start : ℕ) → Refusal → Decision
-refused_with b count start r = record { plan = no_plan; at = 0; n = 0; answer = Refused r; place = start; count = count; book = b }
+refused_with b count start r = record { plan = no_plan; at = 0; n = 0; answer = Err r; place = start; count = count; book = b }
 
 -- "Otherwise take adds its kWh, release subtracts them, move does both": the book changes, nothing is posted
 abbrev pub changed_to : Book → (count : ℕ) → Decision
-changed_to b count = record { plan = no_plan; at = 0; n = 0; answer = Accepted; place = 0; count = count; book = b }
+changed_to b count = record { plan = no_plan; at = 0; n = 0; answer = Ok Committed; place = 0; count = count; book = b }
 
 abbrev pub with_held : Book → (hour unit kwh : ℕ) → Book
 with_held b hour unit kwh = with_commitment b (hour - 1) (unit - 1) (record { 0 = kwh })
@@ -191,7 +209,7 @@ posted_with s b hour mark result place count =
       plan = plan_of hour s.units (hour_amounts b (hour - 1)) result.amounts;
       at = count;
       n = n;
-      answer = Posted n;
+      answer = Ok (Posted n);
       place = place;
       count = count + n;
       book = with_hour b (hour - 1) mark s.units result;
@@ -227,8 +245,8 @@ accepted_in s b q count =
     (cond (eqb q.kind 5) (recorded_in s b q count) (voided_at s b q.hour count)))))
 
 abbrev pub by_verdict : Verdict → Decision → (Refusal → Decision) → Decision
-by_verdict passes d f = d
-by_verdict (fails r) d f = f r
+by_verdict (Ok tt) d f = d
+by_verdict (Err r) d f = f r
 
 -- what a request comes to, with `count` postings in a list of so many places
 unfoldable pub decided : Sheet → Book → Request → (count places : ℕ) → Bool → Decision
@@ -279,7 +297,7 @@ carried_out s st q =
 
 -- the requests of the calls; one without a text has a reading that is refused
 abbrev pub unread : ReadAnswer
-unread = text_refused (TextEnds 0)
+unread = text_refused no_start
 
 abbrev pub plain_request : (kind hour unit to kwh : ℕ) → Request
 plain_request kind hour unit to kwh =

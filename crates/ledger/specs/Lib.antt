@@ -1,5 +1,6 @@
 pub mod Ledger
 pub mod Reckoned
+pub mod Answers
 pub mod Numbers
 pub mod Calls
 pub mod Agrees

@@ -1,10 +1,10 @@
 -- Document 01's numbers: of each refusal, and of what a call answers.
-use Rattle.std.specs.Prelude.{ℕ}
-use Rattle.lines.specs.Refusals.{text_number, text_line}
+use Rattle.std.specs.Prelude.{ℕ, Ok, Err}
+use Rattle.lines.specs.Refusals.{text_number}
 use Rattle.ledger.specs.declared.Refusal.{Refusal}
 use Rattle.ledger.specs.declared.Refusal.TheVariants.{Text, SheetRange, HourRange, UnitUnknown, BookRange, HourSettled, NoAmount, OverOffer, HeldLess, SameUnit, Minutes, Readings, Proportions, HourStands, HourOpen, NoPlaces}
-use Rattle.ledger.specs.declared.Answer.{Answer}
-use Rattle.ledger.specs.declared.Answer.TheVariants.{Accepted, Posted, Refused}
+use Rattle.ledger.specs.Answers.{Answer}
+use Rattle.ledger.specs.declared.Effect.TheVariants.{Committed, Posted}
 use Rattle.ledger.specs.Ledger.{Reply}
 
 -- 01, the table of refusals
@@ -28,7 +28,7 @@ refusal_number NoPlaces = 42
 
 -- "for 1 to 4 the line"
 abbrev pub refusal_line : Refusal → ℕ
-refusal_line (Text t) = text_line t
+refusal_line (Text t) = t.line
 refusal_line SheetRange = 0
 refusal_line HourRange = 0
 refusal_line UnitUnknown = 0
@@ -47,9 +47,9 @@ refusal_line NoPlaces = 0
 
 -- an answer with its text place, in numbers: the refusal's number or 0, its line, the postings appended, the place
 abbrev pub reply_of : Answer → (place : ℕ) → Reply
-reply_of Accepted place = record { number = 0; line = 0; posted = 0; place = place }
-reply_of (Posted n) place = record { number = 0; line = 0; posted = n; place = place }
-reply_of (Refused r) place = record { number = refusal_number r; line = refusal_line r; posted = 0; place = place }
+reply_of (Ok Committed) place = record { number = 0; line = 0; posted = 0; place = place }
+reply_of (Ok (Posted n)) place = record { number = 0; line = 0; posted = n; place = place }
+reply_of (Err r) place = record { number = refusal_number r; line = refusal_line r; posted = 0; place = place }
 
 abbrev pub number_of : Answer → ℕ
 number_of a = (reply_of a 0).number

@@ -1,26 +1,18 @@
 -- 01, Book and journal: "A total call adds the postings of a unit and item."
-use Rattle.std.specs.Prelude.{ℕ, Bool, cond, ◌&&◌, leb, ℤ, pos, length, take}
+use Rattle.std.specs.Prelude.{ℕ, Bool, cond, ◌&&◌, leb, ℤ, length, take, Ok, Err}
 use Rattle.units.specs.Units.{is_member}
 use Rattle.sheet.specs.declared.Sheet.{Sheet}
 use Rattle.sheet.specs.Ranges.{sheet_holds}
 use Rattle.state.specs.declared.Book.{Book}
 use Rattle.postings.specs.Journal.{posted_hold, total_of}
-use Rattle.ledger.specs.declared.Refusal.{Refusal}
 use Rattle.ledger.specs.declared.Refusal.TheVariants.{SheetRange, BookRange, UnitUnknown}
-use Rattle.ledger.specs.declared.Verdict.TheVariants.{Accepted, Refused}
-use Rattle.ledger.specs.declared.TotalAnswer.{TotalAnswer}
+use Rattle.ledger.specs.Answers.{TotalAnswer}
 use Rattle.ledger.specs.Calls.{State, book_fits}
 
--- a refused total call has no total
-abbrev pub no_total : Refusal → TotalAnswer
-no_total r = record { verdict = Refused r; sum = pos 0 }
-
--- 9, then 12, then 11
+-- 9, then 12, then 11; a refused total call has no total
 unfoldable pub total_by : (sheet_fits book_fits known : Bool) → ℤ → TotalAnswer
 total_by sheet_fits book_fits known sum =
-    cond sheet_fits
-    (cond book_fits (cond known (record { verdict = Accepted; sum = sum }) (no_total UnitUnknown)) (no_total BookRange))
-    (no_total SheetRange)
+    cond sheet_fits (cond book_fits (cond known (Ok sum) (Err UnitUnknown)) (Err BookRange)) (Err SheetRange)
 
 -- 11: "unit not in the plant (total: or item not 1–5)"
 abbrev pub item_of : Sheet → (unit item : ℕ) → Bool

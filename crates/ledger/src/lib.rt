@@ -2,9 +2,11 @@
 // same with no book. Definitions and laws; the code that carries the calls out stands in the crates above.
 #![tactic(auto)]
 
-use lines::{ReadAnswer, TextRefusal};
-use postings::Plan;
-use record::Record;
+ghost use Rattle.std.specs.Prelude.{◌≡◌};
+ghost use Rattle.ledger.specs.declared.Refusal.TheVariants.{Text};
+ghost use Rattle.ledger.specs.Numbers.{refusal_number, refusal_line};
+
+use lines::TextRefusal;
 use state::Book;
 
 // Why a call is refused.
@@ -44,38 +46,62 @@ pub enum Refusal {
     NoPlaces,
 }
 
-// Whether a call is accepted.
-#[derive(Clone, Copy)]
-pub enum Verdict {
-    Accepted,
-    Refused(Refusal),
+impl From<TextRefusal> for Refusal {
+    ghost from_gives = { λ t r. r ≡ Text t };
+
+    fn from(refusal: TextRefusal) -> Refusal {
+        Refusal::Text(refusal)
+    }
 }
 
-// What a call answers; `Posted` has the number of postings appended.
+impl Refusal {
+    // Document 01's number.
+    pub fn number(self) -> u64
+        ensures { result ≡ refusal_number self }
+    {
+        match self {
+            Refusal::Text(t) => t.number(),
+            Refusal::SheetRange => 9,
+            Refusal::HourRange => 10,
+            Refusal::UnitUnknown => 11,
+            Refusal::BookRange => 12,
+            Refusal::HourSettled => 20,
+            Refusal::NoAmount => 21,
+            Refusal::OverOffer => 22,
+            Refusal::HeldLess => 23,
+            Refusal::SameUnit => 24,
+            Refusal::Minutes => 31,
+            Refusal::Readings => 32,
+            Refusal::Proportions => 33,
+            Refusal::HourStands => 40,
+            Refusal::HourOpen => 41,
+            Refusal::NoPlaces => 42,
+        }
+    }
+
+    // The line of a refusal 1 to 4, otherwise 0.
+    pub fn line(self) -> u64
+        ensures { result ≡ refusal_line self }
+    {
+        match self {
+            Refusal::Text(t) => t.line,
+            _ => 0,
+        }
+    }
+}
+
+// What an accepted call did.
 #[derive(Clone, Copy)]
-pub enum Answer {
-    Accepted,
+pub enum Effect {
+    // a take, release or move: commitments are changed, and nothing is posted
+    Committed,
+    // a settle, restate or void: so many postings are appended
     Posted(u64),
-    Refused(Refusal),
-}
-
-// A call: kinds 1 to 6 are take, release, move, settle, restate and void. Settle and restate carry what was read of the record's text from
-// `start` on.
-#[derive(Clone, Copy)]
-pub struct Request {
-    pub kind: u64,
-    pub hour: u64,
-    pub unit: u64,
-    pub to: u64,
-    pub kwh: u64,
-    pub start: u64,
-    pub answer: ReadAnswer,
-    pub read: Record,
 }
 
 // A call in numbers, as a list of calls has it: the kind as above, where every other number asks for a void of hour 0, which is refused; and the
 // part of the lent text that the call is given, from `begin` to before `end`; a record starts at `start` in that part.
-#[derive(Clone, Copy)]
+#[derive(Clone, Copy, Default)]
 pub struct Asked {
     pub kind: u64,
     pub hour: u64,
@@ -87,30 +113,11 @@ pub struct Asked {
     pub start: u64,
 }
 
-// What a call comes to: n postings of the plan, stored from place `at` on; the answer and the text place; the count and the book after it.
-#[derive(Clone, Copy)]
-pub struct Decision {
-    pub plan: Plan,
-    pub at: usize,
-    pub n: usize,
-    pub answer: Answer,
-    pub place: u64,
-    pub count: u64,
-    pub book: Book,
-}
-
 // What a call answers and leaves, without what it posted.
 #[derive(Clone, Copy)]
 pub struct Outcome {
-    pub answer: Answer,
+    pub answer: Result<Effect, Refusal>,
     pub place: u64,
     pub count: u64,
     pub book: Book,
-}
-
-// What a total call answers: the verdict, and the total, 0 where it is refused.
-#[derive(Clone, Copy)]
-pub struct TotalAnswer {
-    pub verdict: Verdict,
-    pub sum: i64,
 }

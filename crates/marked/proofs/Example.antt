@@ -70,7 +70,7 @@ module _ (free : Free) where
       paid (energy_pay cost)
       ∷ (availability_item rates declared (get_or takes k (hub 0))
       ∷ (refund_item rates declared u.real d allowed
-      ∷ (test_item rates u.measured u.reading u.repair u.since d (get_or energy k (grains 0)) ∷ (owed drawn ∷ []))))
+      ∷ (test_item rates u.reading u.repair u.since d (get_or energy k (grains 0)) ∷ (owed drawn ∷ []))))
 
   abbrev pub placed : List HubGrains
   placed = three (grains 781000000) (grains 1100000000) (grains 1287000000) (grains 0)

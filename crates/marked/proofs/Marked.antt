@@ -39,7 +39,7 @@ marked_rows = (
               (
                 λ energy loss. refl,
                 (
-                  λ measured reading energy. refl,
+                  λ reading energy. refl,
                   (
                     refl,
                     (refl, tt),

@@ -1,5 +1,5 @@
 -- The marked figures of 01 (Program and marked figures) as the rows of a table, and what makes a row right.
-use Rattle.std.specs.Prelude.{◌≡◌, Bool, true, false, cond, List, [], ◌∷◌, ℕ, ◌-◌, ℤ, pos, get_or, set, replicate}
+use Rattle.std.specs.Prelude.{◌≡◌, Bool, true, false, cond, Option, Some, List, [], ◌∷◌, ℕ, ◌-◌, ℤ, pos, get_or, set, replicate}
 use Rattle.energy.specs.declared.GrossKwh.{GrossKwh}
 use Rattle.energy.specs.declared.NetKwh.{NetKwh}
 use Rattle.energy.specs.declared.HubKwh.{HubKwh}
@@ -94,8 +94,7 @@ unit_record real declared reading =
       test = net 0;
       deviation = net 0;
       power = gross declared;
-      measured = true;
-      reading = net reading;
+      reading = Some (net reading);
       since = 1;
       repair = 0;
       spans = 1;
@@ -153,11 +152,11 @@ Right (ceilings_of r1 r2 r3 c1 c2 c3) =
     → ceilings (net 320000) (net 0) (plant_of (day_sheet free) (hour_record r1 r2 r3) takes) ≡ three (grains c1) (grains c2) (grains c3) (grains 0)
 Right (allowed_on day month power a) = declaration_ceiling (in_season month day) (gross power) ≡ gross a
 Right (charged_by reading q charged) =
-    (energy : HubGrains) (loss : ℕ) → is_charged (net q) true (net reading) energy loss ≡ charged
+    (energy : HubGrains) (loss : ℕ) → is_charged (net q) (Some (net reading)) energy loss ≡ charged
 Right (charge_for d2 since charge) =
-    (measured : Bool) (reading : NetKwh) (energy : HubGrains)
+    (reading : Option NetKwh) (energy : HubGrains)
     → let d = only_kind 2 d2 in
-    cond (is_charged (counted_deviation d 0) measured reading energy loss) (charge_of (weighted d 0) since cpf bar) 0 ≡ charge
+    cond (is_charged (counted_deviation d 0) reading energy loss) (charge_of (weighted d 0) since cpf bar) 0 ≡ charge
 Right (refund_of declared real d7 a amount) =
     refund (net declared) (net real) (only_kind 7 d7) (net_of (gross a) 0) cpf bar ≡ amount
 Right (drawn_for reverse n ceiling amount) = drawn_pay (net reverse) (net n) ceiling loss ≡ amount

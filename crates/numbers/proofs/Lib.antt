@@ -1,4 +1,3 @@
-pub mod Filling
 pub mod Pasted
 pub mod Listed
 pub mod OffersRead

@@ -16,6 +16,7 @@ use offer::Offer;
 use settlement::Amounts;
 use sheet::{Sheet, UnitSheet};
 use state::Book;
+use std::array;
 
 // The numbers of an offer: how many steps, ten quantities, ten prices.
 pub const OFFER: usize = 21;
@@ -29,53 +30,31 @@ pub const AMOUNTS: usize = 960;
 // The amounts of an hour, five for each place.
 pub const HOUR_ITEMS: usize = 40;
 
-// Ten quantities stored from a place on.
-fn put_quantities(out: &mut [u64], at: usize, quantity: [HubKwh; 10])
-    requires { at + 10 ≤ length out.old }
-    ensures { out.new ≡ paste out.old at (tabulate 10 (λ (i : ℕ). (get_or quantity i (record { 0 = 0 })).0)) 10 }
+// The quantities of an offer as numbers, ten as their type says.
+fn quantities_of(quantity: &[HubKwh; 10]) -> [u64; 10]
+    ensures ten { length quantity.now ≡ 10 }
+    ensures numbers { result ≡ tabulate 10 (λ (i : ℕ). (get_or quantity.now i (record { 0 = 0 })).0) }
 {
-    let mut i: usize = 0;
-    while i < 10 {
-        let kwh = quantity[i];
-        out[at + i] = kwh.0;
-        i += 1;
-    }
-}
-
-// Ten prices stored from a place on.
-fn put_prices(out: &mut [u64], at: usize, price: [u64; 10])
-    requires { at + 10 ≤ length out.old }
-    ensures { out.new ≡ paste out.old at (tabulate 10 (λ (i : ℕ). get_or price i 0)) 10 }
-{
-    let mut i: usize = 0;
-    while i < 10 {
-        out[at + i] = price[i];
-        i += 1;
-    }
+    quantity.map(|kwh| kwh.0)
 }
 
 // An offer's numbers stored from a place on. The offer has ten quantities and ten prices, as its type says.
-fn put_offer(out: &mut [u64], at: usize, o: Offer)
+fn put_offer(out: &mut [u64], at: usize, o: &Offer)
     requires { at + offer_size ≤ length out.old }
-    ensures { OfferPut o at out.old out.new }
+    ensures { OfferPut o.now at out.old out.new }
 {
-    let quantity = o.quantity;
-    let price = o.price;
     out[at] = o.steps as u64;
-    put_quantities(out, at + 1, quantity);
-    put_prices(out, at + 11, price);
+    out[at + 1..at + 11].copy_from_slice(&quantities_of(&o.quantity));
+    out[at + 11..at + OFFER].copy_from_slice(&o.price);
 }
 
 // The offers of the unit at place k, hour by hour.
-fn put_unit(out: &mut [u64], k: usize, u: UnitSheet)
+fn put_unit(out: &mut [u64], k: usize, u: &UnitSheet)
     requires { (k < places) × (length out.old ≡ offer_size * entries) }
-    ensures { UnitOffers k u out.old out.new }
+    ensures { UnitOffers k u.now out.old out.new }
 {
-    let mut h: usize = 0;
-    while h < 24 {
-        let o = u.offers[h];
-        put_offer(out, OFFER * (8 * h + k), o);
-        h += 1;
+    for h in 0..24 {
+        put_offer(out, OFFER * (8 * h + k), &u.offers[h]);
     }
 }
 
@@ -84,11 +63,8 @@ pub fn offer_numbers(sheet: Sheet) -> [u64; OFFERS]
     ensures { OffersOf sheet result }
 {
     let mut out = [0u64; OFFERS];
-    let mut k: usize = 0;
-    while k < 8 {
-        let u = sheet.unit[k];
-        put_unit(&mut out, k, u);
-        k += 1;
+    for k in 0..8 {
+        put_unit(&mut out, k, &sheet.unit[k]);
     }
     out
 }
@@ -98,19 +74,11 @@ fn offer_in(offers: &[u64], j: usize) -> Offer
     requires { (j < entries) × (length offers.now ≡ offer_size * entries) }
     ensures { result ≡ offer_in offers.now j }
 {
-    let mut quantity = [HubKwh(0); 10];
-    let mut price = [0u64; 10];
     let at = OFFER * j;
-    let mut i: usize = 0;
-    while i < 10 {
-        quantity[i] = HubKwh(offers[at + 1 + i]);
-        price[i] = offers[at + 11 + i];
-        i += 1;
-    }
     Offer {
         steps: offers[at] as usize,
-        quantity,
-        price,
+        quantity: array::from_fn(|i| HubKwh(offers[at + 1 + i])),
+        price: array::from_fn(|i| offers[at + 11 + i]),
     }
 }
 
@@ -119,13 +87,7 @@ pub fn offers_in(offers: &[u64], h: usize) -> [Offer; 8]
     requires { (h < hours) × (length offers.now ≡ offer_size * entries) }
     ensures { result ≡ tabulate places (λ (k : ℕ). offer_in offers.now (entry_of h k)) }
 {
-    let mut offer = [offer::no_offer(); 8];
-    let mut k: usize = 0;
-    while k < 8 {
-        offer[k] = offer_in(offers, 8 * h + k);
-        k += 1;
-    }
-    offer
+    array::from_fn(|k| offer_in(offers, 8 * h + k))
 }
 
 // What a commitment may not exceed: the last quantity of the offer, 0 outside the plant.
@@ -133,14 +95,8 @@ pub fn limit_in(offers: &[u64], member: bool, j: usize) -> HubKwh
     requires { (j < entries) × (length offers.now ≡ offer_size * entries) }
     ensures { result ≡ limit_of member (offer_in offers.now j) }
 {
-    if !member {
-        return HubKwh(0);
-    }
     let steps = offers[OFFER * j];
-    if steps < 1 {
-        return HubKwh(0);
-    }
-    if 10 < steps {
+    if !member || steps < 1 || 10 < steps {
         return HubKwh(0);
     }
     HubKwh(offers[OFFER * j + steps as usize])
@@ -150,28 +106,14 @@ pub fn limit_in(offers: &[u64], member: bool, j: usize) -> HubKwh
 pub fn grains_of(energy: [HubGrains; 192]) -> [u64; 192]
     ensures { result ≡ grains_of energy }
 {
-    let mut out = [0u64; 192];
-    let mut j: usize = 0;
-    while j < 192 {
-        let grains = energy[j];
-        out[j] = grains.0;
-        j += 1;
-    }
-    out
+    energy.map(|grains| grains.0)
 }
 
 // The amounts of a book as numbers, five to an hour and place.
 pub fn amount_numbers(amounts: [Amounts; 192]) -> [i64; AMOUNTS]
     ensures { result ≡ amount_numbers amounts }
 {
-    let mut out = [0i64; AMOUNTS];
-    let mut n: usize = 0;
-    while n < AMOUNTS {
-        let a = amounts[n / 5];
-        out[n] = a.item[n % 5];
-        n += 1;
-    }
-    out
+    array::from_fn(|n| amounts[n / 5].item[n % 5])
 }
 
 // The lists of a book, of their numbers.
@@ -179,26 +121,14 @@ pub fn commitments_of(commitment: &[u64]) -> [HubKwh; 192]
     requires { length commitment.now ≡ entries }
     ensures { result ≡ commitments_of commitment.now }
 {
-    let mut out = [HubKwh(0); 192];
-    let mut j: usize = 0;
-    while j < 192 {
-        out[j] = HubKwh(commitment[j]);
-        j += 1;
-    }
-    out
+    array::from_fn(|j| HubKwh(commitment[j]))
 }
 
 pub fn energies_of(energy: &[u64]) -> [HubGrains; 192]
     requires { length energy.now ≡ entries }
     ensures { result ≡ energies_of energy.now }
 {
-    let mut out = [HubGrains(0); 192];
-    let mut j: usize = 0;
-    while j < 192 {
-        out[j] = HubGrains(energy[j]);
-        j += 1;
-    }
-    out
+    array::from_fn(|j| HubGrains(energy[j]))
 }
 
 // The amounts of an hour and place.
@@ -206,26 +136,16 @@ fn amounts_at(amounts: &[i64], j: usize) -> Amounts
     requires { (j < entries) × (length amounts.now ≡ items * entries) }
     ensures { result ≡ amounts_at amounts.now j }
 {
-    let mut item = [0i64; 5];
-    let mut i: usize = 0;
-    while i < 5 {
-        item[i] = amounts[5 * j + i];
-        i += 1;
+    Amounts {
+        item: array::from_fn(|i| amounts[5 * j + i]),
     }
-    Amounts { item }
 }
 
 pub fn amounts_of(amounts: &[i64]) -> [Amounts; 192]
     requires { length amounts.now ≡ items * entries }
     ensures { result ≡ amounts_of amounts.now }
 {
-    let mut out = [settlement::no_amounts(); 192];
-    let mut j: usize = 0;
-    while j < 192 {
-        out[j] = amounts_at(amounts, j);
-        j += 1;
-    }
-    out
+    array::from_fn(|j| amounts_at(amounts, j))
 }
 
 // The book of its numbers.
@@ -253,13 +173,7 @@ pub fn held_in(commitment: &[u64], h: usize) -> [HubKwh; 8]
     requires { (h < hours) × (length commitment.now ≡ entries) }
     ensures { result ≡ held_in commitment.now h }
 {
-    let mut held = [HubKwh(0); 8];
-    let mut k: usize = 0;
-    while k < 8 {
-        held[k] = HubKwh(commitment[8 * h + k]);
-        k += 1;
-    }
-    held
+    array::from_fn(|k| HubKwh(commitment[8 * h + k]))
 }
 
 // The energies of the plant's units in an hour give way to the new ones.
@@ -267,26 +181,19 @@ pub fn store_energies(energy: &mut [u64], h: usize, units: u64, new: [HubGrains;
     requires { (h < hours) × (length energy.old ≡ entries) }
     ensures { energies_of energy.new ≡ stored no_grains h units new (energies_of energy.old) }
 {
-    let mut k: usize = 0;
-    while k < 8 {
+    for k in 0..8 {
         if units::member_at(units, k) {
-            let grains = new[k];
-            energy[8 * h + k] = grains.0;
+            energy[8 * h + k] = new[k].0;
         }
-        k += 1;
     }
 }
 
 // A unit's five amounts stored from a place on.
-fn put_amounts(amounts: &mut [i64], at: usize, new: Amounts)
+fn put_amounts(amounts: &mut [i64], at: usize, new: &Amounts)
     requires { at + items ≤ length amounts.old }
-    ensures { amounts.new ≡ paste amounts.old at (tabulate items (item_of new)) items }
+    ensures { amounts.new ≡ paste amounts.old at (tabulate items (item_of new.now)) items }
 {
-    let mut i: usize = 0;
-    while i < 5 {
-        amounts[at + i] = new.item[i];
-        i += 1;
-    }
+    amounts[at..at + 5].copy_from_slice(&new.item);
 }
 
 // The amounts of the plant's units in an hour give way to the new ones.
@@ -294,13 +201,10 @@ pub fn store_amounts(amounts: &mut [i64], h: usize, units: u64, new: [Amounts; 8
     requires { (h < hours) × (length amounts.old ≡ items * entries) × ((k : ℕ) → k < places → length (get_or new k past_amounts).item ≡ items) }
     ensures { amounts_of amounts.new ≡ stored past_amounts h units new (amounts_of amounts.old) }
 {
-    let mut p: usize = 0;
-    while p < 8 {
+    for p in 0..8 {
         if units::member_at(units, p) {
-            let its = new[p];
-            put_amounts(amounts, 5 * (8 * h + p), its);
+            put_amounts(amounts, 5 * (8 * h + p), &new[p]);
         }
-        p += 1;
     }
 }
 
@@ -317,10 +221,7 @@ pub fn differ(rows: &mut [i64], at: usize, amounts: &[i64], h: usize, new: [Amou
     requires { (h < hours) × (at + hour_items ≤ length rows.old) × (length amounts.now ≡ items * entries) × ((n : ℕ) → nat_abs (get_or amounts.now n (pos 0)) ≤ most_amount) × ((k i : ℕ) → k < places → i < items → nat_abs (item_of (get_or new k past_amounts) i) ≤ most_amount) }
     ensures { rows.new ≡ paste rows.old at (differences amounts.now h new) hour_items }
 {
-    let mut j: usize = 0;
-    while j < HOUR_ITEMS {
-        let its = new[j / 5];
-        rows[at + j] = difference(its.item[j % 5], amounts[HOUR_ITEMS * h + j]);
-        j += 1;
+    for j in 0..HOUR_ITEMS {
+        rows[at + j] = difference(new[j / 5].item[j % 5], amounts[HOUR_ITEMS * h + j]);
     }
 }

@@ -5,7 +5,7 @@ use mathlib.Core.Path.{◌≡◌, refl, sym, ap, ◌∙◌, subst}
 use mathlib.Core.Bool.{Bool, true, false}
 use mathlib.Core.List.{List}
 use Prim.Native.Nat.{ℕ, zero, suc, ◌+◌, ◌*◌, ◌-◌, ◌/◌, ◌%◌, ◌≤◌, ◌<◌}
-use native.Mathlib.Nat.{add_assoc, mul-le-mul, mul-le-mul_left, mul_comm, mul-suc, zero-mul, div-lt_iff_lt-mul, mod-lt, mul-add-div, div-eq_of_lt, mul-add-mod_self_left, mod-eq_of_lt}
+use native.Mathlib.Nat.{mul-le-mul, mul-le-mul_left, mul_comm, mul-suc, zero-mul, div-lt_iff_lt-mul, mod-lt, mul-add-div, div-eq_of_lt, mul-add-mod_self_left, mod-eq_of_lt}
 use native.Mathlib.Numerals.{add-one}
 use native.Mathlib.Omega.{arith}
 use borrow.Author.Tests.{ltb-true, ltb-false}
@@ -29,15 +29,6 @@ use Rattle.postings.proofs.Posted.{plan_row, posting_at}
 -- row k, by division: of entry k / size, and of the place and item that the rest stands for
 abbrev pub row_by : (place : List ℕ) (size : ℕ) → List ℕ → List ℤ → ℕ → Posting
 row_by place size hours amounts k = entry_posting hours amounts (k / size) (get_or place (k % size / items) 0) (k % size % items)
-
-pub row_made : (place : List ℕ) (size : ℕ) (hours : List ℕ) (amounts : List ℤ) (k : ℕ) (z : ℤ)
-    → z ≡ get_or amounts (plan_rows * (k / size) + items * get_or place (k % size / items) 0 + k % size % items) (pos 0)
-    → record { hour = get_or hours (k / size) 0; unit = get_or place (k % size / items) 0 + 1; item = k % size % items + 1; amount = z }
-    ≡ row_by place size hours amounts k
-row_made place size hours amounts k z e =
-    let p = get_or place (k % size / items) 0 in
-    let v = e ∙ ap (λ (n : ℕ). get_or amounts n (pos 0)) (add_assoc (plan_rows * (k / size)) (items * p) (k % size % items)) in
-    λ j. record { hour = get_or hours (k / size) 0; unit = p + 1; item = k % size % items + 1; amount = v j }
 
 -- how many rows there are at most
 pub size_most : (units : ℕ) → units < 256 → entry_size units ≤ plan_rows

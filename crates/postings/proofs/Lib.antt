@@ -1,4 +1,3 @@
-pub mod Steps
 pub mod Rows
 pub mod Counted
 pub mod Totals

@@ -1,8 +1,7 @@
 -- The journal: postings and a count of them, what refusal 12 asks of both, and totals (01, Book and journal).
-use Rattle.std.specs.Prelude.{ℕ, zero, suc, ◌*◌, ◌-◌, min, Bool, true, cond, ◌&&◌, List, [], ◌∷◌, leb, eqb, ℤ, pos, ◌+ℤ◌, length, get_or}
+use Rattle.std.specs.Prelude.{ℕ, zero, suc, ◌*◌, ◌-◌, min, Bool, true, cond, ◌&&◌, List, [], ◌∷◌, Option, None, Some, leb, eqb, ℤ, pos, ◌+ℤ◌, length, get_or}
 use Rattle.state.specs.Ranges.{within}
 use Rattle.postings.specs.declared.Posting.{Posting}
-use Rattle.postings.specs.declared.Scanned.{Scanned}
 
 -- a posting of nothing, which an index past the end reads too
 abbrev pub no_posting : Posting
@@ -35,29 +34,26 @@ unfoldable pub total_of : ℕ → ℕ → List Posting → ℤ
 total_of unit item [] = pos 0
 total_of unit item (x ∷ l) = cond (is_of x unit item) x.amount (pos 0) +ℤ total_of unit item l
 
--- both in one pass. One posting more: it must be within ±10^12, and is added where it is the unit's and the item's; the bound on the sum,
--- which 100,000 good postings cannot reach, keeps it in its machine word.
+-- both in one pass: what the postings add up to, and nothing once one is beyond ±10^12. One posting more is added where it is the unit's and the
+-- item's; the bound on the sum, which 100,000 good postings cannot reach, keeps it in its machine word.
 abbrev pub most_total : ℕ
 most_total = most_postings * most_posted
 
 abbrev pub most_before : ℕ
 most_before = most_total - most_posted
 
-unfoldable pub scanned_with : Scanned → Posting → ℕ → ℕ → Scanned
-scanned_with s x unit item =
-    let good = s.good && within x.amount most_posted in
-    record {
-      good = good;
-      sum = cond (good && (is_of x unit item && within s.sum most_before)) (s.sum +ℤ x.amount) s.sum;
-    }
+unfoldable pub scanned_with : Option ℤ → Posting → ℕ → ℕ → Option ℤ
+scanned_with None x unit item = None
+scanned_with (Some sum) x unit item =
+    cond (within x.amount most_posted) (Some (cond (is_of x unit item && within sum most_before) (sum +ℤ x.amount) sum)) None
 
-abbrev pub scanned_none : Scanned
-scanned_none = record { good = true; sum = pos 0 }
+abbrev pub scanned_none : Option ℤ
+scanned_none = Some (pos 0)
 
 -- the first k postings of a list, and all of them
-unfoldable pub scanned_to : List Posting → ℕ → ℕ → ℕ → Scanned
+unfoldable pub scanned_to : List Posting → ℕ → ℕ → ℕ → Option ℤ
 scanned_to l unit item zero = scanned_none
 scanned_to l unit item (suc k) = scanned_with (scanned_to l unit item k) (get_or l k no_posting) unit item
 
-abbrev pub scanned : ℕ → ℕ → List Posting → Scanned
+abbrev pub scanned : ℕ → ℕ → List Posting → Option ℤ
 scanned unit item l = scanned_to l unit item (length l)

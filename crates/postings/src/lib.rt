@@ -1,10 +1,11 @@
 // Postings: the count and the scan of those up to it, and the postings of a batch of calls.
 #![tactic(auto)]
 
-ghost use Rattle.std.specs.Prelude.{◌≡◌, ◌*◌, ◌≤◌, min, length};
+ghost use Rattle.std.specs.Prelude.{◌≡◌, ◌*◌, ◌≤◌, ◌<◌, length};
 ghost use Rattle.postings.specs.Journal.{no_posting, count_holds, covered_by, is_of, scanned_with, scanned_none};
 ghost use Rattle.postings.specs.Plan.{plan_rows};
-ghost use Rattle.postings.specs.Entries.{most_entries, PlacesOf, EntryRows};
+ghost use Rattle.state.specs.Sizes.{places, items};
+ghost use Rattle.postings.specs.Entries.{most_entries, PlacesOf, entry_posting, EntryRows};
 
 // How many entries a batch of calls can have: one for each call that posts.
 pub const ENTRIES: usize = 16;
@@ -24,13 +25,6 @@ pub struct Posting {
     pub amount: i64,
 }
 
-// Whether the postings passed are within their bound, and what those of a unit and item add up to.
-#[derive(Clone, Copy)]
-pub struct Scanned {
-    pub good: bool,
-    pub sum: i64,
-}
-
 // The postings of one call in their order, then none.
 #[derive(Clone, Copy)]
 pub struct Plan {
@@ -38,27 +32,19 @@ pub struct Plan {
 }
 
 // Whether a count keeps to the list and to 100,000.
+#[tactic(auto, unfolding(crate::specs::Journal::count_holds))]
 pub fn count_holds(count: u64, len: usize) -> bool
     ensures { result ≡ count_holds count len }
 {
-    if count > (len as u64) {
-        return false;
-    }
-    count <= 100000
-}
-
-// The lesser of two numbers.
-fn least(a: u64, b: u64) -> u64
-    ensures { result ≡ min a b }
-{
-    if a < b { a } else { b }
+    count <= len as u64 && count <= 100000
 }
 
 // How many postings are looked at.
+#[tactic(auto, unfolding(crate::specs::Journal::covered_by))]
 pub fn covered(count: u64, len: usize) -> usize
     ensures { result ≡ covered_by count len }
 {
-    least(least(count, len as u64), 100000) as usize
+    count.min(len as u64).min(100000) as usize
 }
 
 pub fn no_posting() -> Posting
@@ -76,43 +62,29 @@ pub fn no_posting() -> Posting
 fn is_of(x: Posting, unit: u64, item: u64) -> bool
     ensures { result ≡ is_of x unit item }
 {
-    if x.unit == unit {
-        return x.item == item;
-    }
-    false
+    (x.unit, x.item) == (unit, item)
 }
 
-pub fn scanned_none() -> Scanned
+// What the postings passed of a unit and item add up to: 0 before the first, and `None` once a posting is out of its bound.
+pub fn scanned_none() -> Option<i64>
     ensures { result ≡ scanned_none }
 {
-    Scanned { good: true, sum: 0 }
+    Some(0)
 }
 
 // One posting more.
-pub fn scanned_with(s: Scanned, x: Posting, unit: u64, item: u64) -> Scanned
-    ensures { result ≡ scanned_with s x unit item }
+#[tactic(auto, unfolding(crate::specs::Journal::scanned_with))]
+pub fn scanned_with(sum: Option<i64>, x: Posting, unit: u64, item: u64) -> Option<i64>
+    ensures { result ≡ scanned_with sum x unit item }
 {
-    let amount = x.amount;
-    let sum = s.sum;
-    if !s.good {
-        return s;
+    let sum = sum?;
+    if !state::within(x.amount, 1000000000000) {
+        return None;
     }
-    if !state::within(amount, 1000000000000) {
-        return Scanned {
-            good: false,
-            sum: sum,
-        };
+    if is_of(x, unit, item) && state::within(sum, 99999000000000000) {
+        return Some(sum + x.amount);
     }
-    if !is_of(x, unit, item) {
-        return s;
-    }
-    if !state::within(sum, 99999000000000000) {
-        return s;
-    }
-    Scanned {
-        good: true,
-        sum: sum + amount,
-    }
+    Some(sum)
 }
 
 // The places of the plant's units, ascending, then 0.
@@ -120,16 +92,26 @@ fn places_of(units: u64) -> [usize; 8]
     ensures { PlacesOf units result }
 {
     let mut place = [0usize; 8];
-    let mut m: usize = 0;
-    let mut p: usize = 0;
-    while p < 8 {
+    for p in 0..8 {
         if units::member_at(units, p) {
-            place[m] = p;
-            m += 1;
+            place[units::block_of(units, p)] = p;
         }
-        p += 1;
     }
     place
+}
+
+// The posting of item i, from 0, of the unit at place p in entry e.
+fn entry_posting(hours: &[u64], amounts: &[i64], e: usize, p: usize, i: usize) -> Posting
+    requires within { (e < most_entries) × (p < places) × (i < items) }
+    requires long { (length hours.now ≡ most_entries) × (length amounts.now ≡ most_entries * plan_rows) }
+    ensures { result ≡ entry_posting hours.now amounts.now e p i }
+{
+    Posting {
+        hour: hours[e],
+        unit: p as u64 + 1,
+        item: i as u64 + 1,
+        amount: amounts[ENTRY_ITEMS * e + 5 * p + i],
+    }
 }
 
 // The postings of the first entries, five a unit, in order: of each unit of the plant and each item the amount that the entry has for it.
@@ -141,18 +123,9 @@ pub fn rows_of(units: u64, hours: &[u64], amounts: &[i64], filled: usize) -> [Po
     let size = 5 * units::unit_count(units) as usize;
     let n = size * filled;
     let mut row = [no_posting(); ROWS];
-    let mut k: usize = 0;
-    while k < n {
-        let e = k / size;
+    for k in 0..n {
         let w = k % size;
-        let p = place[w / 5];
-        row[k] = Posting {
-            hour: hours[e],
-            unit: p as u64 + 1,
-            item: (w % 5) as u64 + 1,
-            amount: amounts[ENTRY_ITEMS * e + 5 * p + w % 5],
-        };
-        k += 1;
+        row[k] = entry_posting(hours, amounts, k / size, place[w / 5], w % 5);
     }
     row
 }

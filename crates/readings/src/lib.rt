@@ -1,20 +1,20 @@
 // The test of a record's readings against the plant's `net`.
 #![tactic(auto)]
 
-ghost use Rattle.std.specs.Prelude.{◌≡◌, true, cond};
+ghost use Rattle.std.specs.Prelude.{◌≡◌, cond};
 ghost use Rattle.units.specs.Units.{member_at};
 ghost use Rattle.record.specs.InRange.{InRange};
-ghost use Rattle.readings.specs.Readings.{readings_total, all_measured, readings_hold};
+ghost use Rattle.readings.specs.Readings.{reading_of, readings_total, all_measured, readings_hold};
 
-use energy::NetKwh;
+use energy::{Energy, NetKwh};
 use record::{Record, UnitRecord};
 
-// The reading of the unit at place k, 0 outside the plant.
+// The reading of the unit at place k, 0 outside the plant and of a unit that is not measured.
 fn reading_at(units: u64, k: usize, u: UnitRecord) -> NetKwh
-    ensures { result.0 ≡ cond (member_at units k) u.reading.0 0 }
+    ensures { result.0 ≡ cond (member_at units k) (reading_of u) 0 }
 {
     if units::member_at(units, k) {
-        return u.reading;
+        return u.reading.unwrap_or(NetKwh(0));
     }
     NetKwh(0)
 }
@@ -25,51 +25,28 @@ fn readings_total(hour: Record, units: u64) -> NetKwh
     ensures { result ≡ readings_total hour units }
 {
     let mut total = NetKwh(0);
-    let mut k: usize = 0;
-    while k < 8 {
-        let u = hour.unit[k];
-        total = total.plus(reading_at(units, k, u));
-        k += 1;
+    for k in 0..8 {
+        total = total.plus(reading_at(units, k, hour.unit[k]));
     }
     total
-}
-
-// Whether the unit at place k is measured, true outside the plant.
-fn measured_at(units: u64, k: usize, u: UnitRecord) -> bool
-    ensures { result ≡ cond (member_at units k) u.measured true }
-{
-    if units::member_at(units, k) {
-        return u.measured;
-    }
-    true
 }
 
 // Whether each unit of the plant is measured.
 fn all_measured(hour: Record, units: u64) -> bool
     ensures { result ≡ all_measured hour units }
 {
-    let mut k: usize = 0;
-    while k < 8 {
-        let u = hour.unit[k];
-        if !measured_at(units, k, u) {
-            return false;
-        }
-        k += 1;
-    }
-    true
+    (0..8).all(|k| !units::member_at(units, k) || hour.unit[k].reading.is_some())
 }
 
 // Whether the readings keep to the plant's `net`: refusal 32 where they do not.
+#[tactic(auto, using(std::proofs::lemmas::Bool::Decides::nat_tests), unfolding(crate::specs::Readings::readings_hold))]
 pub fn readings_hold(hour: Record, units: u64) -> bool
     requires { InRange units hour }
     ensures { result ≡ readings_hold hour units }
 {
     let total = readings_total(hour, units);
-    if total.exceeds(hour.net) {
+    if hour.net < total {
         return false;
     }
-    if all_measured(hour, units) {
-        return total.equals(hour.net);
-    }
-    true
+    total == hour.net || !all_measured(hour, units)
 }

@@ -1,5 +1,5 @@
 -- The empty hour record: what stands at a place outside the plant, and what a refused reading gives (01, Hour record).
-use Rattle.std.specs.Prelude.{false, List, replicate}
+use Rattle.std.specs.Prelude.{None, List, replicate}
 use Rattle.record.specs.declared.Span.{Span}
 use Rattle.record.specs.declared.UnitRecord.{UnitRecord}
 use Rattle.record.specs.declared.Record.{Record}
@@ -18,8 +18,7 @@ empty_unit span =
       test = record { 0 = 0 };
       deviation = record { 0 = 0 };
       power = record { 0 = 0 };
-      measured = false;
-      reading = record { 0 = 0 };
+      reading = None;
       since = 0;
       repair = 0;
       spans = 0;

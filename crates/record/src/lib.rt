@@ -7,7 +7,13 @@ ghost use Rattle.record.specs.Spans.{counted_kind, minutes_of, minutes_hold};
 
 use energy::{GrossKwh, NetKwh};
 
+// The number of spans that a unit has room for, and the minutes that they have in all.
+pub const SPANS: usize = 6;
+
+const HOUR_MINUTES: u64 = 60;
+
 // Minutes of an hour in one status: its kind, the cause (0 none, 1 environment, 2 frequency control), the announced capability.
+// Kind and cause stay numbers: a record may hold any, and an enum would ask more of those who make one.
 #[derive(Clone, Copy)]
 pub struct Span {
     pub minutes: u64,
@@ -16,7 +22,8 @@ pub struct Span {
     pub capability: GrossKwh,
 }
 
-// What an hour record says of a unit. The reading of a unit that is not measured is 0.
+// What an hour record says of a unit; a unit without a reading is not measured.
+// `repair` stays a number: the formulas multiply by 1 - repair, and a record may hold any.
 #[derive(Clone, Copy)]
 pub struct UnitRecord {
     pub declared: GrossKwh,
@@ -24,12 +31,11 @@ pub struct UnitRecord {
     pub test: NetKwh,
     pub deviation: NetKwh,
     pub power: GrossKwh,
-    pub measured: bool,
-    pub reading: NetKwh,
+    pub reading: Option<NetKwh>,
     pub since: u64,
     pub repair: u64,
     pub spans: usize,
-    pub span: [Span; 6],
+    pub span: [Span; SPANS],
 }
 
 // One hour of the plant. Place k of `unit` is that of unit k + 1, empty where the unit is outside the plant.
@@ -63,12 +69,11 @@ pub fn no_unit() -> UnitRecord
         test: NetKwh(0),
         deviation: NetKwh(0),
         power: GrossKwh(0),
-        measured: false,
-        reading: NetKwh(0),
+        reading: None,
         since: 0,
         repair: 0,
         spans: 0,
-        span: [no_span(); 6],
+        span: [no_span(); SPANS],
     }
 }
 
@@ -84,59 +89,36 @@ pub fn no_record() -> Record
     }
 }
 
-// The kind that a span counts as.
+// The kind that a span counts as: kinds 2 and 3 count as 7 under an environmental cause, and as 5 under frequency control.
+#[tactic(auto, unfolding(crate::specs::Spans::counted_kind))]
 pub fn counted_kind(span: Span) -> u64
     ensures { result ≡ counted_kind span }
 {
-    if span.kind < 2 {
-        return span.kind;
+    match (span.kind, span.cause) {
+        (2 | 3, 1) => 7,
+        (2 | 3, 2) => 5,
+        (kind, _) => kind,
     }
-    if span.kind > 3 {
-        return span.kind;
-    }
-    if span.cause == 1 {
-        return 7;
-    }
-    if span.cause == 2 {
-        return 5;
-    }
-    span.kind
 }
 
 // Whether a unit's spans have 60 minutes in all.
 fn unit_minutes(u: UnitRecord) -> bool
     ensures { result ≡ eqb (minutes_of u) 60 }
 {
-    let mut n = u.spans;
-    if n > 6 {
-        n = 6;
-    }
-    let mut total: u64 = 0;
-    let mut i: usize = 0;
-    while i < n {
-        let s = u.span[i];
-        if s.minutes > 60 - total {
+    let n = u.spans.min(SPANS);
+    let mut left = HOUR_MINUTES;
+    for span in &u.span[..n] {
+        let Some(rest) = left.checked_sub(span.minutes) else {
             return false;
-        }
-        total += s.minutes;
-        i += 1;
+        };
+        left = rest;
     }
-    total == 60
+    left == 0
 }
 
 // Whether each unit of the plant has spans of 60 minutes in all: refusal 31 where it does not hold.
 pub fn minutes_hold(hour: Record, units: u64) -> bool
     ensures { result ≡ minutes_hold hour units }
 {
-    let mut k: usize = 0;
-    while k < 8 {
-        if units::member_at(units, k) {
-            let u = hour.unit[k];
-            if !unit_minutes(u) {
-                return false;
-            }
-        }
-        k += 1;
-    }
-    true
+    (0..8).all(|k| !units::member_at(units, k) || unit_minutes(hour.unit[k]))
 }

@@ -1,16 +1,19 @@
 -- A record that was read keeps its ranges: each of its values stands in a line that keeps to its row, or is what blank means there.
 -- Assumes nothing.
-use mathlib.Core.Path.{◌≡◌, refl, subst}
+use mathlib.Core.Path.{◌≡◌, refl, subst, ap}
 use mathlib.Core.Bool.{Bool, true, false, cond}
 use mathlib.Core.List.{List}
 use Prim.Native.Nat.{ℕ, ◌+◌, ◌≤◌, ◌<◌}
 use native.Mathlib.Omega.{arith}
-use borrow.Author.Tests.{eq-eqb, eqb-false, ltb-false}
-use lib.Dec.{eqb, ltb}
+use borrow.Author.Tests.{eqb-false}
+use lib.Dec.{eqb}
+use Rattle.std.specs.Prelude.{Some, None}
+use Rattle.std.specs.Option.{ForSome}
 use lib.Count.{ones}
 use lib.ListN.{get_or}
 use Rattle.finite.proofs.Tables.{get_d_tabulate}
 use Rattle.energy.specs.declared.GrossKwh.{GrossKwh}
+use Rattle.energy.specs.declared.NetKwh.{NetKwh}
 use Rattle.units.specs.Units.{member_at, members}
 use Rattle.units.proofs.Laws.{place_lt}
 use Rattle.text.specs.Rows.{word, blank_row}
@@ -23,7 +26,7 @@ use Rattle.record.specs.declared.UnitRecord.{UnitRecord}
 use Rattle.record.specs.Limits.{last_hour, most_plant_kwh, most_kwh, most_since, most_spans}
 use Rattle.record_lines.specs.Rows.{head_rows, unit_rows, end_row, head_lines, unit_lines, hour_line, net_line, reverse_line, declared_line, real_line, test_line, deviation_line, power_line, reading_line, since_line, repair_line, spans_line}
 use Rattle.record.specs.Empty.{no_span}
-use Rattle.blanks.specs.Blanks.{value_or, declared_by, span_by, unit_by, place_by}
+use Rattle.blanks.specs.Blanks.{value_or, reading_by, declared_by, span_by, unit_by, place_by}
 use Rattle.record_lines.specs.Rows.{block_line}
 use Rattle.record_text.specs.Hour.{record_by}
 use Rattle.record.specs.Spans.{past_unit}
@@ -41,8 +44,16 @@ value_in key low high b l h k keeps = by (eqb l.count 0) refl
     by true e = (h, k)
     by false e = let n : l.count ≡ 0 → ⊥ = eqb-false _ _ e in blank_in key low high l keeps (omega arith)
 
-none_read : (l : Line) → ltb 0 l.count ≡ false → value_or 0 l ≡ 0
-none_read l e = let n : l.count ≡ 0 = omega (arith, ltb-false 0 l.count e) in simp (eq-eqb _ _ n)
+-- a reading is the number of its line
+reading_read : (l : Line) → value_or 0 l ≤ most_kwh → ForSome (reading_by l) (λ n. n.0 ≤ most_kwh)
+reading_read l h = by (eqb l.count 0) h
+  where
+    read : NetKwh
+    read = record { 0 = number_of l }
+
+    by : (t : Bool) → cond t 0 (number_of l) ≤ most_kwh → ForSome (cond t None (Some read)) (λ n. n.0 ≤ most_kwh)
+    by true h = λ n e. cc
+    by false h = λ n e. let same : read ≡ n = cc in omega (arith, ap (λ (k : NetKwh). k.0) same)
 
 module _ (n : ℕ) (lines : List Line) (whole : Whole n lines) where
   head_value : (k : ℕ) (key : List ℕ) (high : ℕ) → k < head_lines → get_or head_rows k end_row ≡ blank_row key 0 high → value_or 0 (line_of lines k) ≤ high
@@ -75,8 +86,7 @@ module _ (n : ℕ) (lines : List Line) (whole : Whole n lines) where
           test = kwh test_line (word "test") (omega arith) refl;
           deviation = kwh deviation_line (word "deviation") (omega arith) refl;
           power = or_monthly power_line (word "power") (omega arith) refl;
-          reading = kwh reading_line (word "reading") (omega arith) refl;
-          unmeasured = none_read (line_of lines (block_line j + reading_line));
+          reading = reading_read (line_of lines (block_line j + reading_line)) (kwh reading_line (word "reading") (omega arith) refl);
           since_least = since.0;
           since_most = since.1;
           repair = (block_value j repair_line (word "repair") 0 1 0 h (omega arith) refl (omega arith) (omega arith)).1;

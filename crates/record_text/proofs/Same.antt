@@ -5,7 +5,6 @@ use mathlib.Core.Bool.{Bool, true, false, cond}
 use mathlib.Core.List.{List}
 use Prim.Native.Nat.{ℕ, ◌+◌, ◌*◌, ◌^◌, ◌<◌}
 use native.Mathlib.Omega.{arith}
-use lib.Dec.{ltb}
 use lib.Count.{ones}
 use lib.ListN.{get_or}
 use Rattle.finite.specs.Finite.{tabulate}
@@ -17,7 +16,7 @@ use Rattle.units.proofs.Laws.{place_lt, members_in, members_mono, members_le}
 use Rattle.text.specs.declared.Line.{Line}
 use Rattle.lines.specs.Lines.{number_of}
 use Rattle.record_lines.specs.Rows.{head_lines, unit_lines, hour_line, net_line, reverse_line, declared_line, real_line, test_line, deviation_line, power_line, reading_line, since_line, repair_line, spans_line}
-use Rattle.blanks.specs.Blanks.{value_or, span_by, spans_by, unit_by, place_by}
+use Rattle.blanks.specs.Blanks.{value_or, reading_by, span_by, spans_by, unit_by, place_by}
 use Rattle.record_lines.specs.Rows.{block_line}
 use Rattle.record.specs.Empty.{no_unit}
 use Rattle.record_text.specs.Hour.{record_by}
@@ -37,8 +36,7 @@ module _ (f g : ℕ → Line) where
         test = record { 0 = value_or 0 (same test_line (omega arith) i) };
         deviation = record { 0 = value_or 0 (same deviation_line (omega arith) i) };
         power = record { 0 = value_or monthly.0 (same power_line (omega arith) i) };
-        measured = ltb 0 (same reading_line (omega arith) i).count;
-        reading = record { 0 = value_or 0 (same reading_line (omega arith) i) };
+        reading = reading_by (same reading_line (omega arith) i);
         since = value_or 1 (same since_line (omega arith) i);
         repair = value_or 0 (same repair_line (omega arith) i);
         spans = spans_by (same spans_line (omega arith) i);

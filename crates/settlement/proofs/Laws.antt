@@ -104,7 +104,7 @@ module _ (sheet : Sheet) (r : Record) (commitment : List HubKwh) where
       ≡ energy_item (hour_offer sheet r k) its energy
       ∷ (availability_item rates declared its
       ∷ (refund_item rates declared u.real d allowed
-      ∷ (test_item rates u.measured u.reading u.repair u.since d energy ∷ (owed (drawn_at sheet r k) ∷ []))))
+      ∷ (test_item rates u.reading u.repair u.since d energy ∷ (owed (drawn_at sheet r k) ∷ []))))
   unfolding amounts_of
   amount_is k m = ap (λ (a : Amounts). a.item) (member_amounts k m)
 

@@ -7,6 +7,7 @@ use Prim.Native.Nat.{ℕ, zero, suc, ◌≤◌}
 use native.Mathlib.Omega.{arith}
 use lib.IntN.{ℤ, pos, nat_abs}
 use lib.ListN.{get_or}
+use Rattle.std.specs.Prelude.{Option}
 use Rattle.energy.specs.declared.NetKwh.{NetKwh}
 use Rattle.energy.specs.declared.HubKwh.{HubKwh}
 use Rattle.energy.specs.declared.HubGrains.{HubGrains}
@@ -81,9 +82,9 @@ module _ (rates : Rates) (own : ℕ) (offer : Offer) (commitment : HubKwh) (u : 
   w_range =
       let w = weighted_most (deviations_of own u) 1000000 (split_ready own u h.in_range) u.repair in (omega arith, rated.cpf, rated.bar)
 
-  test_item_most : (measured : Bool) (reading : NetKwh) → nat_abs (test_item rates measured reading u.repair u.since (deviations_of own u) energy) ≤ 41000000000
+  test_item_most : (reading : Option NetKwh) → nat_abs (test_item rates reading u.repair u.since (deviations_of own u) energy) ≤ 41000000000
   unfolding test_item
-  test_item_most measured reading = by (is_charged (counted_deviation (deviations_of own u) u.repair) measured reading energy rates.loss)
+  test_item_most reading = by (is_charged (counted_deviation (deviations_of own u) u.repair) reading energy rates.loss)
     where
       charge : ℕ
       charge = charge_of (weighted (deviations_of own u) u.repair) u.since rates.cpf rates.bar
@@ -94,9 +95,9 @@ module _ (rates : Rates) (own : ℕ) (offer : Offer) (commitment : HubKwh) (u : 
       by false = omega arith
 
   -- where charged, its size never exceeds the exact product, and falls short of it by under 130 Rial
-  pub test_near : is_charged (counted_deviation (deviations_of own u) u.repair) u.measured u.reading energy rates.loss ≡ true
+  pub test_near : is_charged (counted_deviation (deviations_of own u) u.repair) u.reading energy rates.loss ≡ true
       → NearExact (weighted (deviations_of own u) u.repair) rates.cpf rates.bar (hours_counted u.since)
-      (nat_abs (test_item rates u.measured u.reading u.repair u.since (deviations_of own u) energy))
+      (nat_abs (test_item rates u.reading u.repair u.since (deviations_of own u) energy))
   unfolding test_item
   test_near t =
       let w = weighted (deviations_of own u) u.repair in
@@ -106,4 +107,4 @@ module _ (rates : Rates) (own : ℕ) (offer : Offer) (commitment : HubKwh) (u : 
   unfolding amounts_of
   unit_most drawn l =
       each_most _ _ _ _ _ (within energy_item_most (omega arith)) (within availability_item_most (omega arith))
-      (within (refund_item_most _ _) (omega arith)) (within (test_item_most _ _) (omega arith)) (omega (arith, owed_size drawn))
+      (within (refund_item_most _ _) (omega arith)) (within (test_item_most _) (omega arith)) (omega (arith, owed_size drawn))

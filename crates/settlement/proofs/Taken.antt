@@ -9,6 +9,7 @@ use native.Mathlib.Omega.{arith}
 use lib.ListN.{get_or}
 use Rattle.finite.specs.Finite.{every}
 use Rattle.finite.proofs.Tables.{tabulate_same}
+use Rattle.finite.proofs.Tests.{every_same}
 use Rattle.energy.specs.declared.HubKwh.{HubKwh}
 use Rattle.energy.specs.declared.HubGrains.{HubGrains}
 use Rattle.units.specs.Units.{member_at}
@@ -25,11 +26,6 @@ use Rattle.deviation.specs.Proportions.{unit_proportioned}
 use Rattle.settlement.specs.Refusals.{proportions_hold}
 use Rattle.settlement.specs.Ranges.{HourRead, HourGiven, HourDue, RatesReady, UnitsReady, plant_by, hour_by, proportions_by}
 use Rattle.settlement.proofs.Ready.{own_at_lem, place_same, own_most, rates_ready, drawn_ready, net_most, plant_holds, units_ready}
-
-every_same : (n : ℕ) (f g : ℕ → Bool) → ((i : ℕ) → i < n → f i ≡ g i) → every n f ≡ every n g
-unfolding every
-every_same zero f g h = refl
-every_same (suc n) f g h = ap₂ ◌&&◌ (every_same n f g (λ i l. h i (omega arith))) (h n (omega arith))
 
 module _ (sheet : Sheet) (r : Record) where
   pub hour_by_lem : (commitment : List HubKwh) → hour_by (hour_sheet sheet r.hour) r commitment ≡ hour_result sheet r commitment

@@ -16,5 +16,5 @@ ChargeNear sheet r k energy item =
     let rates = rates_of sheet r.hour in
     let u = record_unit r k in
     let d = deviations_of (sheet_unit sheet.unit k).own u in
-    is_charged (record { 0 = written_q d u.repair }) u.measured u.reading energy rates.loss ≡ true
+    is_charged (record { 0 = written_q d u.repair }) u.reading energy rates.loss ≡ true
     → NearExact (written_w d u.repair) rates.cpf rates.bar (hours_counted u.since) (nat_abs item)

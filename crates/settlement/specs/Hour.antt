@@ -1,5 +1,5 @@
 -- An hour's energies and amounts (01, Allocation; Five items). Place k is that of unit k + 1; outside the plant all is 0.
-use Rattle.std.specs.Prelude.{◌≡◌, refl, Bool, cond, List, [], ◌∷◌, ℕ, ◌-◌, ℤ, pos, get_or, replicate}
+use Rattle.std.specs.Prelude.{◌≡◌, refl, cond, Option, List, [], ◌∷◌, ℕ, ◌-◌, ℤ, pos, get_or, replicate}
 use Rattle.finite.specs.Finite.{tabulate}
 use Rattle.energy.specs.declared.NetKwh.{NetKwh}
 use Rattle.energy.specs.declared.HubKwh.{HubKwh}
@@ -52,10 +52,10 @@ unfoldable pub refund_item : Rates → NetKwh → NetKwh → Deviations → NetK
 refund_item rates declared real d allowed = owed (refund declared real d allowed rates.cpf rates.bar)
 
 -- 4. Test, by the unit's own meter, `repair`, `since`, the deviation by kinds and the unit's grains
-unfoldable pub test_item : Rates → Bool → NetKwh → ℕ → ℕ → Deviations → HubGrains → ℤ
-test_item rates measured reading repair since d energy =
+unfoldable pub test_item : Rates → Option NetKwh → ℕ → ℕ → Deviations → HubGrains → ℤ
+test_item rates reading repair since d energy =
     owed
-    (cond (is_charged (counted_deviation d repair) measured reading energy rates.loss)
+    (cond (is_charged (counted_deviation d repair) reading energy rates.loss)
     (charge_of (weighted d repair) since rates.cpf rates.bar)
     0)
 
@@ -75,7 +75,7 @@ amounts_of rates own offer commitment u energy drawn =
           energy_item offer commitment energy
           ∷ availability_item rates declared commitment
           ∷ refund_item rates declared u.real d allowed
-          ∷ test_item rates u.measured u.reading u.repair u.since d energy
+          ∷ test_item rates u.reading u.repair u.since d energy
           ∷ owed drawn
           ∷ [];
     }

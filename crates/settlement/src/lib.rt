@@ -5,16 +5,16 @@ ghost use Rattle.std.specs.Prelude.{◌≡◌, true, cond, ℕ, ◌≤◌};
 ghost use Rattle.finite.specs.Finite.{tabulate};
 ghost use Rattle.units.specs.Units.{member_at, is_lowest};
 ghost use Rattle.offer.specs.Offer.{offer_holds};
-ghost use Rattle.record.specs.Spans.{unit_at as record_unit};
 ghost use Rattle.deviation.specs.Deviation.{SplitReady};
 ghost use Rattle.settlement.specs.Hour.{no_amounts, energy_item, availability_item, refund_item, test_item, amounts_of};
 ghost use Rattle.settlement.specs.Ranges.{HourGiven, HourDue, RatesReady, UnitReady, UnitsReady, place_amounts, plant_by, hour_by, proportions_by};
 
 use allocation::Plant;
 use energy::{HubGrains, HubKwh, NetKwh};
-use formulas::Deviations;
+use formulas::{AvailabilityRate, Deviations};
 use offer::Offer;
 use record::{Record, UnitRecord};
+use std::array;
 use terms::{HourSheet, Rates};
 
 // The number of items of a unit.
@@ -33,77 +33,102 @@ pub struct HourResult {
     pub amounts: [Amounts; 8],
 }
 
-// Item 1.
-fn energy_item(offer: Offer, commitment: HubKwh, energy: HubGrains) -> i64
-    requires { (offer_holds offer ≡ true) × (commitment.0 ≤ 1000000) × (energy.0 ≤ 80000000000) }
-    ensures { result ≡ energy_item offer commitment energy }
+// What availability is paid by in the hour of these rates.
+fn rate_of(rates: Rates) -> AvailabilityRate
+    requires { RatesReady rates }
+    ensures { (result.cpf ≡ rates.cpf) × (result.bar ≡ rates.bar) }
 {
-    let cost = offer::cost_between(offer, commitment, HubGrains(0), energy);
-    formulas::paid(formulas::energy_pay(cost))
-}
-
-// Item 2, by the net declared capability.
-fn availability_item(rates: Rates, declared: NetKwh, commitment: HubKwh) -> i64
-    requires { RatesReady rates × (declared.0 ≤ 1000000) × (commitment.0 ≤ 1000000) }
-    ensures { result ≡ availability_item rates declared commitment }
-{
-    let gate = energy::gate_of(commitment, rates.loss);
-    formulas::paid(formulas::availability_pay(declared, gate, rates.cpf, rates.bar))
-}
-
-// Item 3, by the net declared capability, `real`, the deviation by kinds and the net declaration ceiling.
-fn refund_item(rates: Rates, declared: NetKwh, real: NetKwh, d: Deviations, allowed: NetKwh) -> i64
-    requires { RatesReady rates × (declared.0 ≤ 1000000) }
-    ensures { result ≡ refund_item rates declared real d allowed }
-{
-    formulas::owed(formulas::refund(declared, real, d, allowed, rates.cpf, rates.bar))
-}
-
-// Item 4, by the unit's own meter, `repair`, `since`, the deviation by kinds and the unit's energy.
-fn test_item(
-    rates: Rates,
-    measured: bool,
-    reading: NetKwh,
-    repair: u64,
-    since: u64,
-    d: Deviations,
-    energy: HubGrains,
-) -> i64
-    requires { RatesReady rates × SplitReady d }
-    ensures { result ≡ test_item rates measured reading repair since d energy }
-{
-    let q = charge::counted_deviation(d, repair);
-    if charge::is_charged(q, measured, reading, energy, rates.loss) {
-        let w = charge::weighted(d, repair);
-        return formulas::owed(charge::charge_of(w, since, rates.cpf, rates.bar));
+    AvailabilityRate {
+        cpf: rates.cpf,
+        bar: rates.bar,
     }
-    0
 }
 
-// A unit's items. Own use is taken off `declared` and the declaration ceiling; the other figures are net.
-fn unit_amounts(
-    rates: Rates,
+// What a unit's items go by in an hour, beside the rates: its own use, its offer, its commitment, what the record says of it, and its energy.
+#[derive(Clone, Copy)]
+struct UnitHour {
     own: u64,
     offer: Offer,
     commitment: HubKwh,
-    u: UnitRecord,
+    unit: UnitRecord,
     energy: HubGrains,
-    drawn: u64,
-) -> Amounts
-    requires { RatesReady rates × UnitReady own offer commitment u energy × (drawn ≤ 80000000000) }
-    ensures { result ≡ amounts_of rates own offer commitment u energy drawn }
-{
-    let declared = energy::net_of(u.declared, own);
-    let ceiling = formulas::declaration_ceiling(rates.season, u.power);
-    let allowed = energy::net_of(ceiling, own);
-    let d = deviation::split(own, u);
-    let paid = energy_item(offer, commitment, energy);
-    let available = availability_item(rates, declared, commitment);
-    let refunded = refund_item(rates, declared, u.real, d, allowed);
-    let tested = test_item(rates, u.measured, u.reading, u.repair, u.since, d, energy);
-    let owed = formulas::owed(drawn);
-    Amounts {
-        item: [paid, available, refunded, tested, owed],
+}
+
+impl UnitHour {
+    // Item 1.
+    #[tactic(auto, using(offer::proofs::Costs::cost_first, offer::proofs::Costs::cost_le, formulas::proofs::Laws::energy_pay_most, formulas::proofs::Amounts::back), unfolding(crate::specs::Hour::energy_item))]
+    fn energy_item(self) -> i64
+        requires { (offer_holds self.offer ≡ true) × (self.commitment.0 ≤ 1000000) × (self.energy.0 ≤ 80000000000) }
+        ensures { result ≡ energy_item self.offer self.commitment self.energy }
+    {
+        let cost = offer::cost_between(self.offer, self.commitment, HubGrains(0), self.energy);
+        formulas::paid(formulas::energy_pay(cost))
+    }
+
+    // Item 2, by the net declared capability.
+    #[tactic(auto, using(formulas::proofs::Laws::availability_most, formulas::proofs::Amounts::back), unfolding(crate::specs::Hour::availability_item))]
+    fn availability_item(self, rates: Rates, declared: NetKwh) -> i64
+        requires { RatesReady rates × (declared.0 ≤ 1000000) × (self.commitment.0 ≤ 1000000) }
+        ensures { result ≡ availability_item rates declared self.commitment }
+    {
+        let gate = energy::gate_of(self.commitment, rates.loss);
+        formulas::paid(formulas::availability_pay(declared, gate, rate_of(rates)))
+    }
+
+    // Item 3, by the net declared capability, the deviation by kinds and the net declaration ceiling.
+    #[tactic(auto, using(formulas::proofs::Laws::refund_most, formulas::proofs::Amounts::back), unfolding(crate::specs::Hour::refund_item))]
+    fn refund_item(self, rates: Rates, declared: NetKwh, d: Deviations, allowed: NetKwh) -> i64
+        requires { RatesReady rates × (declared.0 ≤ 1000000) }
+        ensures { result ≡ refund_item rates declared self.unit.real d allowed }
+    {
+        formulas::owed(formulas::refund(declared, self.unit.real, d, allowed, rate_of(rates)))
+    }
+
+    // Item 4, by the deviation by kinds.
+    #[tactic(auto, using(charge::proofs::Laws::deviation_most, charge::proofs::Laws::weighted_most, charge::proofs::Charge::charge_most, formulas::proofs::Amounts::back), unfolding(crate::specs::Hour::test_item))]
+    fn test_item(self, rates: Rates, d: Deviations) -> i64
+        requires { RatesReady rates × SplitReady d }
+        ensures { result ≡ test_item rates self.unit.reading self.unit.repair self.unit.since d self.energy }
+    {
+        let unit = self.unit;
+        let q = charge::counted_deviation(d, unit.repair);
+        if charge::is_charged(q, unit.reading, self.energy, rates.loss) {
+            let w = charge::weighted(d, unit.repair);
+            return formulas::owed(charge::charge_of(w, unit.since, rate_of(rates)));
+        }
+        0
+    }
+
+    // The five items. Own use is taken off `declared` and the declaration ceiling; the other figures are net.
+    fn amounts(self, rates: Rates, drawn: u64) -> Amounts
+        requires { RatesReady rates × UnitReady self.own self.offer self.commitment self.unit self.energy × (drawn ≤ 80000000000) }
+        ensures { result ≡ amounts_of rates self.own self.offer self.commitment self.unit self.energy drawn }
+    {
+        let declared = energy::net_of(self.unit.declared, self.own);
+        let ceiling = formulas::declaration_ceiling(rates.season, self.unit.power);
+        let allowed = energy::net_of(ceiling, self.own);
+        let d = deviation::split(self.own, self.unit);
+        Amounts {
+            item: [
+                self.energy_item(),
+                self.availability_item(rates, declared),
+                self.refund_item(rates, declared, d, allowed),
+                self.test_item(rates, d),
+                formulas::owed(drawn),
+            ],
+        }
+    }
+
+    // The amounts of the place k, 0 outside the plant. Of the price of the drawn energy all is due of the lowest-numbered unit.
+    fn amounts_at(self, units: u64, k: usize, rates: Rates, drawn: u64) -> Amounts
+        requires { RatesReady rates × (member_at units k ≡ true → UnitReady self.own self.offer self.commitment self.unit self.energy) × (drawn ≤ 80000000000) }
+        ensures { result ≡ cond (member_at units k) (amounts_of rates self.own self.offer self.commitment self.unit self.energy (cond (is_lowest units k) drawn 0)) no_amounts }
+    {
+        if units::member_at(units, k) {
+            let due = drawn_at(units, k, drawn);
+            return self.amounts(rates, due);
+        }
+        no_amounts()
     }
 }
 
@@ -119,32 +144,7 @@ pub fn no_amounts() -> Amounts
 fn drawn_at(units: u64, k: usize, drawn: u64) -> u64
     ensures { result ≡ cond (is_lowest units k) drawn 0 }
 {
-    if units::lowest_at(units, k) {
-        return drawn;
-    }
-    0
-}
-
-// The amounts of the place k, 0 outside the plant.
-fn place_amounts(
-    units: u64,
-    k: usize,
-    rates: Rates,
-    own: u64,
-    offer: Offer,
-    commitment: HubKwh,
-    u: UnitRecord,
-    energy: HubGrains,
-    drawn: u64,
-) -> Amounts
-    requires { RatesReady rates × (member_at units k ≡ true → UnitReady own offer commitment u energy) × (drawn ≤ 80000000000) }
-    ensures { result ≡ cond (member_at units k) (amounts_of rates own offer commitment u energy (cond (is_lowest units k) drawn 0)) no_amounts }
-{
-    if units::member_at(units, k) {
-        let due = drawn_at(units, k, drawn);
-        return unit_amounts(rates, own, offer, commitment, u, energy, due);
-    }
-    no_amounts()
+    if units::lowest_at(units, k) { drawn } else { 0 }
 }
 
 // The amounts of each place, by the units' own use and energies, and the price of the drawn energy.
@@ -159,48 +159,29 @@ fn hour_amounts(
     requires { RatesReady rates × UnitsReady plant.units own plant.offer plant.commitment hour.unit energy × (drawn ≤ 80000000000) }
     ensures { result ≡ tabulate 8 (place_amounts rates plant.units own plant.offer plant.commitment hour.unit energy drawn) }
 {
-    let units = plant.units;
-    let offers = plant.offer;
-    let commitments = plant.commitment;
-    let unit = hour.unit;
-    let mut amounts = [no_amounts(); 8];
-    let mut k: usize = 0;
-    while k < 8 {
-        let offer = offers[k];
-        let commitment = commitments[k];
-        let u = unit[k];
-        let its = energy[k];
-        amounts[k] = place_amounts(units, k, rates, own[k], offer, commitment, u, its, drawn);
-        k += 1;
-    }
-    amounts
-}
-
-// Each unit's `real`.
-fn real_of(hour: Record) -> [NetKwh; 8]
-    ensures { result ≡ tabulate 8 (λ (k : ℕ). (record_unit hour k).real) }
-{
-    let mut real = [NetKwh(0); 8];
-    let mut k: usize = 0;
-    while k < 8 {
-        let u = hour.unit[k];
-        let its = u.real;
-        real[k] = its;
-        k += 1;
-    }
-    real
+    array::from_fn(|k| {
+        let its = UnitHour {
+            own: own[k],
+            offer: plant.offer[k],
+            commitment: plant.commitment[k],
+            unit: hour.unit[k],
+            energy: energy[k],
+        };
+        its.amounts_at(plant.units, k, rates, drawn)
+    })
 }
 
 // What the allocation rests on in the record's hour.
 fn plant_of(day: HourSheet, hour: Record, commitment: [HubKwh; 8]) -> Plant
     ensures { result ≡ plant_by day hour commitment }
 {
+    let real = hour.unit.map(|unit| unit.real);
     let nominal = day.nominal;
     let offer = day.offer;
     Plant {
         loss: day.rates.loss,
         units: day.units,
-        real: real_of(hour),
+        real: real,
         nominal: nominal,
         commitment: commitment,
         offer: offer,
@@ -229,15 +210,5 @@ pub fn proportions_hold(day: HourSheet, hour: Record) -> bool
     requires { HourGiven day hour }
     ensures { result ≡ proportions_by day.units day.own hour }
 {
-    let units = day.units;
-    let own = day.own;
-    let mut k: usize = 0;
-    while k < 8 {
-        let u = hour.unit[k];
-        if !deviation::proportioned_at(units, k, own[k], u) {
-            return false;
-        }
-        k += 1;
-    }
-    true
+    (0..8).all(|k| deviation::proportioned_at(day.units, k, day.own[k], hour.unit[k]))
 }

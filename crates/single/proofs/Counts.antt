@@ -1,6 +1,7 @@
 -- A decision by its answer: a call that posts has one entry, five postings for each unit of the plant, from the count on; any other posts none and leaves
 -- the count. An accepted call changes commitments or it posts, so these two and the refusals are all.
 -- Assumes nothing.
+use Rattle.std.specs.Prelude.{Ok, Err}
 use mathlib.Core.Path.{◌≡◌, refl}
 use mathlib.Core.Bool.{Bool, true, false, cond}
 use Prim.Native.Nat.{ℕ, ◌+◌, ◌*◌, ◌≤◌, ◌<◌}
@@ -10,21 +11,17 @@ use Rattle.sheet.specs.declared.Sheet.{Sheet}
 use Rattle.settlement.specs.declared.HourResult.{HourResult}
 use Rattle.state.specs.declared.Book.{Book}
 use Rattle.postings.specs.Entries.{entry_size}
-use Rattle.ledger.specs.declared.Answer.{Answer}
-use Rattle.ledger.specs.declared.Answer.TheVariants.{Accepted, Posted, Refused}
-use Rattle.ledger.specs.declared.Verdict.{Verdict}
-use Rattle.ledger.specs.declared.Verdict.TheVariants.{Accepted as passes, Refused as fails}
-use Rattle.ledger.specs.declared.Request.{Request}
-use Rattle.ledger.specs.declared.Decision.{Decision}
+use Rattle.ledger.specs.Answers.{Answer, Verdict}
+use Rattle.ledger.specs.declared.Effect.TheVariants.{Committed, Posted}
 use Rattle.ledger.specs.Numbers.{posted_of}
-use Rattle.ledger.specs.Calls.{verdict, request_rows, by_verdict, refused_with, changed_to, posted_with, accepted_in, request_decided}
+use Rattle.ledger.specs.Calls.{verdict, request_rows, by_verdict, refused_with, changed_to, posted_with, accepted_in, request_decided, Request, Decision}
 use Rattle.single.specs.Single.{entries_of, first_at}
 
 -- a call posts one entry, or none
 pub one_entry : (a : Answer) → entries_of a ≤ 1
-one_entry Accepted = omega arith
-one_entry (Posted n) = omega arith
-one_entry (Refused r) = omega arith
+one_entry (Ok Committed) = omega arith
+one_entry (Ok (Posted n)) = omega arith
+one_entry (Err r) = omega arith
 
 either : (P : Decision → Type 0) (t : Bool) (x y : Decision) → P x → P y → P (cond t x y)
 either P true x y p q = p
@@ -53,8 +50,8 @@ pub counts : (s : Sheet) (b : Book) (q : Request) (count places : ℕ) → Count
 counts s b q count places = by (verdict (request_rows s b q count places))
   where
     by : (v : Verdict) → Counts s.units count (by_verdict v (accepted_in s b q count) (refused_with b count q.start))
-    by passes =
+    by (Ok tt) =
         accepted s b q count places (Counts s.units count)
         (λ b'. record { n_is = omega arith; posted_is = refl; count_is = omega arith; at_is = refl; some = λ h. absurd (omega arith) })
         (λ hour mark result place. record { n_is = omega arith; posted_is = refl; count_is = refl; at_is = refl; some = λ h. refl })
-    by (fails r) = record { n_is = omega arith; posted_is = refl; count_is = omega arith; at_is = refl; some = λ h. absurd (omega arith) }
+    by (Err r) = record { n_is = omega arith; posted_is = refl; count_is = omega arith; at_is = refl; some = λ h. absurd (omega arith) }

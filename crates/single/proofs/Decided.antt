@@ -1,6 +1,7 @@
 -- What is decided of one call. Where 9 holds it is refused with it, whatever the postings are, and so with 12; otherwise its own rows say what it comes
 -- to, until a posting is found out of its range: then it is 12, since none of those rows is 9.
 -- Assumes nothing.
+use Rattle.std.specs.Prelude.{Err}
 use mathlib.Core.Path.{◌≡◌, refl, sym, ap, ◌∙◌, subst}
 use mathlib.Core.Bool.{Bool, true, false, not, ◌&&◌}
 use Prim.Native.Nat.{ℕ, ◌-◌, ◌≤◌}
@@ -14,12 +15,9 @@ use Rattle.state.proofs.Entries.{and_false}
 use Rattle.postings.specs.Journal.{count_holds}
 use Rattle.ledger.specs.declared.Refusal.{Refusal}
 use Rattle.ledger.specs.declared.Refusal.TheVariants.{SheetRange, BookRange}
-use Rattle.ledger.specs.declared.Answer.TheVariants.{Refused}
 use Rattle.ledger.specs.declared.Outcome.{Outcome}
-use Rattle.ledger.specs.declared.Request.{Request}
-use Rattle.ledger.specs.declared.Decision.{Decision}
 use Rattle.ledger.specs.Ledger.{Call, start_of}
-use Rattle.ledger.specs.Calls.{request_of, refused_with, request_decided, book_fits, decided}
+use Rattle.ledger.specs.Calls.{request_of, refused_with, request_decided, book_fits, decided, Request, Decision}
 use Rattle.ledger.proofs.Parts.{start_same}
 use Rattle.ledger.proofs.Places.{decided_fits, decided_9, decided_12, decided_on_lem}
 use Rattle.single.specs.declared.CallDecision.{CallDecision}
@@ -50,7 +48,7 @@ module _ (s : Sheet) (b : Book) (c : Call) (count places : ℕ) where
   refused_same start x y e f =
       let p = e ∙ sym (start_same s c) in
       record {
-        outcome = λ i. record { answer = Refused (f i); place = p i; count = count; book = b };
+        outcome = λ i. record { answer = Err (f i); place = p i; count = count; book = b };
         at = refl;
         n = refl;
         rows = λ k l. absurd (omega arith);

@@ -1,6 +1,7 @@
 -- The book's own numbers are handed to the engine, so that the table's book is the book, and a sheet, book and count in their ranges are all that the
 -- engine asks for. What it leaves is the decision of the call: its one entry, where it posts, has the rows of the decision's plan.
 -- Assumes nothing.
+use Rattle.std.specs.Prelude.{Ok, Err}
 use mathlib.Core.Path.{◌≡◌, sym, ap, ◌∙◌, subst}
 use mathlib.Core.Bool.{true, ◌&&◌}
 use mathlib.Core.List.{List}
@@ -25,12 +26,11 @@ use Rattle.postings.specs.Plan.{row_of}
 use Rattle.postings.specs.Entries.{entry_size, EntryRows}
 use Rattle.postings.proofs.Counted.{count_most}
 use Rattle.postings.proofs.Entries.{entry_plan}
-use Rattle.ledger.specs.declared.Answer.{Answer}
-use Rattle.ledger.specs.declared.Answer.TheVariants.{Accepted, Posted, Refused}
-use Rattle.ledger.specs.declared.Decision.{Decision}
+use Rattle.ledger.specs.Answers.{Answer}
+use Rattle.ledger.specs.declared.Effect.TheVariants.{Committed, Posted}
 use Rattle.ledger.specs.Ledger.{Call, start_of}
 use Rattle.ledger.specs.Numbers.{posted_of}
-use Rattle.ledger.specs.Calls.{request_of, request_decided, book_fits}
+use Rattle.ledger.specs.Calls.{request_of, request_decided, book_fits, Decision}
 use Rattle.numbers.specs.Offers.{OffersOf}
 use Rattle.numbers.specs.Numbers.{book_of, grains_of, amount_numbers}
 use Rattle.numbers.proofs.Packed.{book_same}
@@ -108,9 +108,9 @@ module _ (s : Sheet) (b : Book) (count places : ℕ) (terms : DayTerms) (offers 
 
 -- an entry that has rows
 entries_some : (a : Answer) (size k : ℕ) → k < size * entries_of a → (0 < entries_of a) × (k < size)
-entries_some Accepted size k l = absurd (omega arith)
-entries_some (Posted n) size k l = (omega arith, omega arith)
-entries_some (Refused r) size k l = absurd (omega arith)
+entries_some (Ok Committed) size k l = absurd (omega arith)
+entries_some (Ok (Posted n)) size k l = (omega arith, omega arith)
+entries_some (Err r) size k l = absurd (omega arith)
 
 module _ (s : Sheet) (b : Book) (c : Call) (count places : ℕ) (v : sheet_holds s ≡ true) (u : book_fits s b count places true ≡ true)
     (rows : List ℤ) (t' : Table) (rows' : List ℤ) (done : Done) (m : Matches s.units (request_decided s b (request_of s c) count places) 0 rows t' rows' done) where

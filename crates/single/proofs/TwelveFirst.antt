@@ -1,5 +1,6 @@
 -- Of the refusals of a request's own rows none is 9, so that 12 is what goes before them.
 -- Assumes nothing.
+use Rattle.std.specs.Prelude.{Ok, Err}
 use mathlib.Core.Path.{◌≡◌, refl}
 use mathlib.Core.Bool.{Bool, true, false, cond, not}
 use mathlib.Core.List.{List, [], ◌∷◌, ◌++◌}
@@ -8,37 +9,39 @@ use lib.Dec.{eqb}
 use Rattle.lines.specs.declared.ReadAnswer.{ReadAnswer}
 use Rattle.lines.specs.declared.ReadAnswer.TheVariants.{Read, Refused as unread}
 use Rattle.lines.specs.declared.TextRefusal.{TextRefusal}
-use Rattle.lines.specs.declared.TextRefusal.TheVariants.{NotDue, BadValue, OfferOrder, TextEnds}
+use Rattle.text.specs.declared.TextFault.{TextFault}
+use Rattle.text.specs.declared.TextFault.TheVariants.{NotDue, BadValue, OfferOrder, TextEnds}
 use Rattle.sheet.specs.declared.Sheet.{Sheet}
 use Rattle.state.specs.declared.Book.{Book}
 use Rattle.ledger.specs.declared.Refusal.{Refusal}
 use Rattle.ledger.specs.declared.Refusal.TheVariants.{Text, BookRange, HourStands, HourOpen}
-use Rattle.ledger.specs.declared.Verdict.{Verdict}
-use Rattle.ledger.specs.declared.Verdict.TheVariants.{Accepted as passes, Refused as fails}
-use Rattle.ledger.specs.declared.Request.{Request}
-use Rattle.ledger.specs.Calls.{Row, row, verdict, is_settled, text_rows, record_rows, request_rows, by_verdict, refused_with, accepted_in, request_decided}
+use Rattle.ledger.specs.Answers.{Verdict}
+use Rattle.ledger.specs.Calls.{Row, row, verdict, is_settled, text_rows, record_rows, request_rows, by_verdict, refused_with, accepted_in, request_decided, Request}
 use Rattle.single.specs.Single.{nine_first, twelve_or9}
 use Rattle.single.proofs.Counts.{accepted}
 
 -- no refusal, or one that is not 9
 abbrev OtherThan9 : Verdict → Type 0
-OtherThan9 passes = Unit {0}
-OtherThan9 (fails r) = nine_first r ≡ BookRange
+OtherThan9 (Ok tt) = Unit {0}
+OtherThan9 (Err r) = nine_first r ≡ BookRange
 
 other_row : (r : Row) (rs : List Row) → nine_first r.refusal ≡ BookRange → OtherThan9 (verdict rs) → OtherThan9 (verdict (r ∷ rs))
 unfolding verdict
 other_row r rs e h = by r.holds
   where
-    by : (t : Bool) → OtherThan9 (cond t (fails r.refusal) (verdict rs))
+    by : (t : Bool) → OtherThan9 (cond t (Err r.refusal) (verdict rs))
     by true = e
     by false = h
 
-other_text : (t : TextRefusal) → nine_first (Text t) ≡ BookRange
+other_fault : (f : TextFault) (line : ℕ) → nine_first (Text (record { fault = f; line = line })) ≡ BookRange
 unfolding nine_first
-other_text (NotDue line) = refl
-other_text (BadValue line) = refl
-other_text (OfferOrder line) = refl
-other_text (TextEnds line) = refl
+other_fault NotDue line = refl
+other_fault BadValue line = refl
+other_fault OfferOrder line = refl
+other_fault TextEnds line = refl
+
+other_text : (t : TextRefusal) → nine_first (Text t) ≡ BookRange
+other_text t = other_fault t.fault t.line
 
 module _ (s : Sheet) (b : Book) (q : Request) (count places : ℕ) where
   none : OtherThan9 (verdict [])
@@ -80,5 +83,5 @@ module _ (s : Sheet) (b : Book) (q : Request) (count places : ℕ) where
   twelve_first = by (verdict (request_rows s b q count places)) other_rows
     where
       by : (v : Verdict) → OtherThan9 v → twelve_or9 (by_verdict v (accepted_in s b q count) (refused_with b count q.start)).answer ≡ BookRange
-      by passes h = accepted s b q count places (λ d. twelve_or9 d.answer ≡ BookRange) (λ b'. refl) (λ hour mark result place. refl)
-      by (fails r) h = h
+      by (Ok tt) h = accepted s b q count places (λ d. twelve_or9 d.answer ≡ BookRange) (λ b'. refl) (λ hour mark result place. refl)
+      by (Err r) h = h

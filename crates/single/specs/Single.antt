@@ -1,18 +1,17 @@
 -- One call by itself, decided in two steps: first all but the postings up to the count, then, where one of those is out of its range, 12.
-use Rattle.std.specs.Prelude.{ℕ, ◌-◌, ◌≤◌, ◌<◌, ◌≡◌, Bool, true, false, cond, List, eqb, get_or, replicate}
+use Rattle.std.specs.Prelude.{ℕ, ◌-◌, ◌≤◌, ◌<◌, ◌≡◌, Bool, true, false, cond, List, eqb, is_some, get_or, replicate, Ok, Err}
 use Rattle.sheet.specs.declared.Sheet.{Sheet}
 use Rattle.state.specs.declared.Book.{Book}
 use Rattle.postings.specs.declared.Posting.{Posting}
 use Rattle.postings.specs.Journal.{no_posting}
 use Rattle.ledger.specs.declared.Refusal.{Refusal}
 use Rattle.ledger.specs.declared.Refusal.TheVariants.{SheetRange, BookRange}
-use Rattle.ledger.specs.declared.Answer.{Answer}
-use Rattle.ledger.specs.declared.Answer.TheVariants.{Accepted, Posted, Refused}
-use Rattle.ledger.specs.declared.Decision.{Decision}
+use Rattle.ledger.specs.Answers.{Answer}
+use Rattle.ledger.specs.declared.Effect.TheVariants.{Committed, Posted}
 use Rattle.ledger.specs.declared.Outcome.{Outcome}
 use Rattle.ledger.specs.Numbers.{refusal_number}
 use Rattle.ledger.specs.Ledger.{Call}
-use Rattle.ledger.specs.Calls.{request_of, decided}
+use Rattle.ledger.specs.Calls.{request_of, decided, Decision}
 use Rattle.single.specs.declared.CallDecision.{CallDecision}
 use Rattle.single.specs.Journal.{scanned_in, posted, Performed}
 
@@ -25,26 +24,26 @@ no_rows = replicate most_rows no_posting
 
 -- how many entries a call posts, and where its first posting goes: the count, 0 where it posts none
 abbrev pub entries_of : Answer → ℕ
-entries_of Accepted = 0
-entries_of (Posted n) = 1
-entries_of (Refused r) = 0
+entries_of (Ok Committed) = 0
+entries_of (Ok (Posted n)) = 1
+entries_of (Err r) = 0
 
 abbrev pub first_at : Answer → (count : ℕ) → ℕ
-first_at Accepted count = 0
-first_at (Posted n) count = count
-first_at (Refused r) count = 0
+first_at (Ok Committed) count = 0
+first_at (Ok (Posted n)) count = count
+first_at (Err r) count = 0
 
 abbrev pub refused_call : Book → (count start : ℕ) → Refusal → CallDecision
-refused_call b count start r = record { row = no_rows; at = 0; n = 0; start = start; answer = Refused r; place = start; count = count; book = b }
+refused_call b count start r = record { row = no_rows; at = 0; n = 0; start = start; answer = Err r; place = start; count = count; book = b }
 
 -- 9 goes before 12
 unfoldable pub nine_first : Refusal → Refusal
 nine_first r = cond (eqb (refusal_number r) 9) SheetRange BookRange
 
 abbrev pub twelve_or9 : Answer → Refusal
-twelve_or9 Accepted = BookRange
-twelve_or9 (Posted n) = BookRange
-twelve_or9 (Refused r) = nine_first r
+twelve_or9 (Ok Committed) = BookRange
+twelve_or9 (Ok (Posted n)) = BookRange
+twelve_or9 (Err r) = nine_first r
 
 -- by whether the postings up to the count are in their ranges
 abbrev pub checked_by : Bool → Book → (count : ℕ) → CallDecision → CallDecision
@@ -70,5 +69,5 @@ pub record Decides (s : Sheet) (b : Book) (count places : ℕ) (c : Call) (d : C
 -- the call on the list: the postings are looked at, and the rows appended
 abbrev pub performed_by : List Posting → (count : ℕ) → Book → CallDecision → Performed
 performed_by l count b d =
-    let c = checked_by (scanned_in l count 0 0).good b count d in
+    let c = checked_by (is_some (scanned_in l count 0 0)) b count d in
     record { outcome = call_outcome c; list = posted l c.at c.row c.n }

@@ -1,40 +1,39 @@
 // Calls one at a time, over the engine: what a single call comes to. Its postings are kept in rows until the journal's functions, in a crate above, append them.
 #![tactic(auto)]
 
-ghost use Rattle.std.specs.Prelude.{◌≡◌, true, ◌&&◌, leb};
+ghost use Rattle.std.specs.Prelude.{◌≡◌, true, ◌&&◌, leb, pos, is_some};
+ghost use Rattle.std.specs.Option.{unwrap_or};
 ghost use Rattle.sheet.specs.Ranges.{sheet_holds};
-ghost use Rattle.ledger.specs.Ledger.{take as take_call, release as release_call, move as move_call, settle as settle_call, restate as restate_call, void as void_call};
 ghost use Rattle.ledger.specs.Calls.{book_fits};
-ghost use Rattle.ledger.specs.Total.{no_total, total_decided};
-ghost use Rattle.ledger.specs.Requests.{call_for};
+ghost use Rattle.ledger.specs.Total.{total_decided};
 ghost use Rattle.decisions.specs.Calls.{call_of};
 ghost use Rattle.single.specs.Single.{no_rows, refused_call, nine_first, twelve_or9, entries_of, first_at, checked_by, call_outcome, Decides};
 
-use decisions::{Call, CommitmentCall, CommitmentKind, RecordCall};
-use ledger::{Answer, Asked, Outcome, Refusal, TotalAnswer, Verdict};
-use postings::{Posting, Scanned};
+use decisions::Call;
+use ledger::{Effect, Outcome, Refusal};
+use postings::{ENTRIES, Posting, ROWS};
 use sheet::Sheet;
 use state::Book;
 
 // What one call comes to, but for the postings up to the count: n rows to be stored from place `at` on; where its record starts; the answer and the text
-// place; the count and the book after it.
+// place; the count and the book after it. The rows are an array with how many count, since the library has no heap.
 #[derive(Clone, Copy)]
 pub struct CallDecision {
-    pub row: [Posting; 640],
+    pub row: [Posting; ROWS],
     pub at: usize,
     pub n: usize,
     pub start: u64,
-    pub answer: Answer,
+    pub answer: Result<Effect, Refusal>,
     pub place: u64,
     pub count: u64,
     pub book: Book,
 }
 
 // The rows that hold no posting.
-pub fn no_rows() -> [Posting; 640]
+pub fn no_rows() -> [Posting; ROWS]
     ensures { result ≡ no_rows }
 {
-    [postings::no_posting(); 640]
+    [postings::no_posting(); ROWS]
 }
 
 fn refused_call(book: Book, count: u64, start: u64, refusal: Refusal) -> CallDecision
@@ -45,7 +44,7 @@ fn refused_call(book: Book, count: u64, start: u64, refusal: Refusal) -> CallDec
         at: 0,
         n: 0,
         start,
-        answer: Answer::Refused(refusal),
+        answer: Err(refusal),
         place: start,
         count,
         book,
@@ -53,23 +52,22 @@ fn refused_call(book: Book, count: u64, start: u64, refusal: Refusal) -> CallDec
 }
 
 // 9 goes before 12.
-fn twelve_or_9(answer: Answer) -> Refusal
+fn twelve_or_9(answer: Result<Effect, Refusal>) -> Refusal
     ensures { result ≡ twelve_or9 answer }
 {
     match answer {
-        Answer::Accepted => Refusal::BookRange,
-        Answer::Posted(_) => Refusal::BookRange,
-        Answer::Refused(refusal) => nine_first(refusal),
+        Ok(_) => Refusal::BookRange,
+        Err(refusal) => nine_first(refusal),
     }
 }
 
 fn nine_first(refusal: Refusal) -> Refusal
     ensures { result ≡ nine_first refusal }
 {
-    if let Refusal::SheetRange = refusal {
-        return Refusal::SheetRange;
+    match refusal {
+        Refusal::SheetRange => Refusal::SheetRange,
+        _ => Refusal::BookRange,
     }
-    Refusal::BookRange
 }
 
 // The decision once the postings up to the count are looked at: 12 where one is out of its range.
@@ -79,42 +77,37 @@ pub fn checked(book: Book, count: u64, d: CallDecision, good: bool) -> CallDecis
     if good {
         return d;
     }
-    let answer = d.answer;
-    refused_call(book, count, d.start, twelve_or_9(answer))
+    refused_call(book, count, d.start, twelve_or_9(d.answer))
 }
 
 pub fn outcome_of(d: CallDecision) -> Outcome
     ensures { result ≡ call_outcome d }
 {
-    let answer = d.answer;
-    let book = d.book;
     Outcome {
-        answer,
+        answer: d.answer,
         place: d.place,
         count: d.count,
-        book,
+        book: d.book,
     }
 }
 
 // How many entries a call posts: one, or none.
-pub fn entries_of(answer: Answer) -> usize
+pub fn entries_of(answer: Result<Effect, Refusal>) -> usize
     ensures { result ≡ entries_of answer }
 {
     match answer {
-        Answer::Posted(_) => 1,
-        Answer::Accepted => 0,
-        Answer::Refused(_) => 0,
+        Ok(Effect::Posted(_)) => 1,
+        Ok(Effect::Committed) | Err(_) => 0,
     }
 }
 
 // Where the first posting of a call goes: the count, or 0 where it posts none.
-fn first_at(answer: Answer, count: u64) -> usize
+fn first_at(answer: Result<Effect, Refusal>, count: u64) -> usize
     ensures { result ≡ first_at answer count }
 {
     match answer {
-        Answer::Posted(_) => count as usize,
-        Answer::Accepted => 0,
-        Answer::Refused(_) => 0,
+        Ok(Effect::Posted(_)) => count as usize,
+        Ok(Effect::Committed) | Err(_) => 0,
     }
 }
 
@@ -133,15 +126,12 @@ fn decide_in_range(
     let units = sheet.units;
     let terms = terms::terms_of(sheet);
     let offers = numbers::offer_numbers(sheet);
-    let held = book.commitment;
-    let grains = book.energy;
-    let old = book.amounts;
-    let mut commitment = state::kwh_of(held);
+    let mut commitment = state::kwh_of(book.commitment);
     let mut mark = book.mark;
-    let mut energy = numbers::grains_of(grains);
-    let mut amounts = numbers::amount_numbers(old);
-    let mut hours = [0u64; 16];
-    let mut rows = [0i64; 640];
+    let mut energy = numbers::grains_of(book.energy);
+    let mut amounts = numbers::amount_numbers(book.amounts);
+    let mut hours = [0u64; ENTRIES];
+    let mut rows = [0i64; ROWS];
     let done = engine::carry_out(
         &mut commitment,
         &mut mark,
@@ -172,7 +162,7 @@ fn decide_in_range(
 }
 
 // One call on any sheet, book and count: 9, then the book's and the count's part of 12.
-fn decide(
+pub fn decide(
     sheet: Sheet,
     book: Book,
     text: &[u8],
@@ -192,147 +182,14 @@ fn decide(
     decide_in_range(sheet, book, text, call, count, places)
 }
 
-// The named calls, each by itself. A call without a record is given no text.
-pub fn take(
-    sheet: Sheet,
-    book: Book,
-    count: u64,
-    places: usize,
-    hour: u64,
-    unit: u64,
-    kwh: u64,
-) -> CallDecision
-    ensures { Decides sheet book count places (take_call hour unit kwh) result }
-{
-    let call = Call::Commitment(CommitmentCall {
-        kind: CommitmentKind::Take,
-        hour,
-        unit,
-        to: unit,
-        kwh,
-    });
-    decide(sheet, book, b"", call, count, places)
-}
-
-pub fn release(
-    sheet: Sheet,
-    book: Book,
-    count: u64,
-    places: usize,
-    hour: u64,
-    unit: u64,
-    kwh: u64,
-) -> CallDecision
-    ensures { Decides sheet book count places (release_call hour unit kwh) result }
-{
-    let call = Call::Commitment(CommitmentCall {
-        kind: CommitmentKind::Release,
-        hour,
-        unit,
-        to: unit,
-        kwh,
-    });
-    decide(sheet, book, b"", call, count, places)
-}
-
-pub fn move_kwh(
-    sheet: Sheet,
-    book: Book,
-    count: u64,
-    places: usize,
-    hour: u64,
-    from: u64,
-    to: u64,
-    kwh: u64,
-) -> CallDecision
-    ensures { Decides sheet book count places (move_call hour from to kwh) result }
-{
-    let call = Call::Commitment(CommitmentCall {
-        kind: CommitmentKind::Move,
-        hour,
-        unit: from,
-        to,
-        kwh,
-    });
-    decide(sheet, book, b"", call, count, places)
-}
-
-pub fn void_hour(sheet: Sheet, book: Book, count: u64, places: usize, hour: u64) -> CallDecision
-    ensures { Decides sheet book count places (void_call hour) result }
-{
-    decide(sheet, book, b"", Call::Void(hour), count, places)
-}
-
-pub fn settle(
-    sheet: Sheet,
-    book: Book,
-    count: u64,
-    places: usize,
-    text: &[u8],
-    start: u64,
-) -> CallDecision
-    ensures { Decides sheet book count places (settle_call text.now start) result }
-{
-    let call = Call::Record(RecordCall {
-        again: false,
-        begin: 0,
-        end: text.len() as u64,
-        start,
-    });
-    decide(sheet, book, text, call, count, places)
-}
-
-pub fn restate(
-    sheet: Sheet,
-    book: Book,
-    count: u64,
-    places: usize,
-    text: &[u8],
-    start: u64,
-) -> CallDecision
-    ensures { Decides sheet book count places (restate_call text.now start) result }
-{
-    let call = Call::Record(RecordCall {
-        again: true,
-        begin: 0,
-        end: text.len() as u64,
-        start,
-    });
-    decide(sheet, book, text, call, count, places)
-}
-
-pub fn call(
-    sheet: Sheet,
-    book: Book,
-    count: u64,
-    places: usize,
-    text: &[u8],
-    asked: Asked,
-) -> CallDecision
-    ensures { Decides sheet book count places (call_for text.now asked) result }
-{
-    decide(sheet, book, text, decisions::decode(asked), count, places)
-}
-
-fn no_total(refusal: Refusal) -> TotalAnswer
-    ensures { result ≡ no_total refusal }
-{
-    TotalAnswer {
-        verdict: Verdict::Refused(refusal),
-        sum: 0,
-    }
-}
-
 fn item_known(item: u64) -> bool
     ensures { result ≡ (leb 1 item && leb item 5) }
 {
-    if item < 1 {
-        return false;
-    }
-    item <= 5
+    1 <= item && item <= 5
 }
 
 // What a total call answers, from what was seen of the postings up to the count.
+#[tactic(auto, unfolding(ledger::specs::Total::total_decided, ledger::specs::Total::total_by))]
 pub fn total_of(
     sheet: Sheet,
     book: Book,
@@ -340,26 +197,23 @@ pub fn total_of(
     item: u64,
     count: u64,
     places: usize,
-    seen: Scanned,
-) -> TotalAnswer
-    ensures { result ≡ total_decided sheet book unit item count places seen.good seen.sum }
+    seen: Option<i64>,
+) -> Result<i64, Refusal>
+    ensures { result ≡ total_decided sheet book unit item count places (is_some seen) (unwrap_or seen (pos 0)) }
 {
-    let good = seen.good;
-    let sum = seen.sum;
+    let good = seen.is_some();
+    let sum = seen.unwrap_or(0);
     if !sheet::sheet_holds(sheet) {
-        return no_total(Refusal::SheetRange);
+        return Err(Refusal::SheetRange);
     }
     if !decisions::book_fits(sheet, book, count, places, good) {
-        return no_total(Refusal::BookRange);
+        return Err(Refusal::BookRange);
     }
     if !units::has_unit(sheet.units, unit) {
-        return no_total(Refusal::UnitUnknown);
+        return Err(Refusal::UnitUnknown);
     }
     if !item_known(item) {
-        return no_total(Refusal::UnitUnknown);
+        return Err(Refusal::UnitUnknown);
     }
-    TotalAnswer {
-        verdict: Verdict::Accepted,
-        sum: sum,
-    }
+    Ok(sum)
 }

@@ -1,6 +1,4 @@
-pub mod Bounds
 pub mod Entries
-pub mod Commitments
 pub mod Marks
 pub mod Empty
 pub mod Writing

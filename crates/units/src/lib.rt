@@ -5,34 +5,26 @@ ghost use Rattle.std.specs.Prelude.{◌≡◌, ◌<◌};
 ghost use Rattle.units.specs.Units.{is_member, member_at, members, unit_count, is_lowest};
 
 // Whether unit n is in the plant.
+#[tactic(auto, using(crate::proofs::Ones::shifted_bit), unfolding(crate::specs::Units::is_member))]
 pub fn has_unit(units: u64, n: u64) -> bool
     ensures { result ≡ is_member units n }
 {
-    if n == 0 {
-        return false;
-    }
-    if n > 8 {
-        return false;
-    }
-    let place = n - 1;
-    (units >> place) & 1 == 1
+    (1..=8).contains(&n) && (units >> (n - 1)) & 1 == 1
 }
 
 // Whether the unit of place k, which is unit k + 1, is in the plant.
+#[tactic(auto, using(crate::proofs::Laws::place_past), unfolding(crate::specs::Units::member_at))]
 pub fn member_at(units: u64, k: usize) -> bool
     ensures { result ≡ member_at units k }
 {
-    if k >= 8 {
-        return false;
-    }
-    has_unit(units, k as u64 + 1)
+    k < 8 && has_unit(units, k as u64 + 1)
 }
 
 // The number of units in the plant.
 pub fn unit_count(units: u64) -> u64
     ensures { result ≡ unit_count units }
 {
-    u64::count_ones(units) as u64
+    units.count_ones() as u64
 }
 
 // The number of the plant's units below place k: the number, from 0, of the block of the unit at place k.
@@ -41,15 +33,13 @@ pub fn block_of(units: u64, k: usize) -> usize
     ensures { result ≡ members units k }
 {
     let bound = 1u64 << k;
-    u64::count_ones(units % bound) as usize
+    (units % bound).count_ones() as usize
 }
 
 // Whether the unit of place k is the plant's lowest-numbered one.
+#[tactic(auto, using(crate::proofs::Laws::place_lt), unfolding(crate::specs::Units::is_lowest))]
 pub fn lowest_at(units: u64, k: usize) -> bool
     ensures { result ≡ is_lowest units k }
 {
-    if member_at(units, k) {
-        return block_of(units, k) == 0;
-    }
-    false
+    member_at(units, k) && block_of(units, k) == 0
 }

@@ -2,7 +2,7 @@
 -- The measure is the number of calls left.
 -- Assumes nothing.
 use mathlib.Core.Path.{◌≡◌, sym, ap, ◌∙◌}
-use Prim.Native.Nat.{◌+◌, ◌-◌, ◌<◌}
+use Prim.Native.Nat.{◌+◌, ◌<◌}
 use native.Mathlib.Omega.{arith}
 use Rattle.ledger.specs.Requests.{asked_at}
 use Rattle.decisions.specs.Calls.{decoded}

@@ -1,12 +1,7 @@
 use mathlib.Core.Path.{◌≡◌}
-use Prim.Native.Nat.{◌-◌, ◌≤◌}
 use Rattle.finite.specs.Finite.{sum}
-use Rattle.formulas.specs.Items.{kinds}
 use Rattle.charge.specs.Test.{weighted_part}
 use Rattle.charge.proofs.weighted.Given as goal
 
 abbrev pub invariant-loop-j : goal.invariant-loop-j
-invariant-loop-j l = (l.j ≤ kinds) × (l.w ≡ sum l.j (weighted_part l.d l.repair))
-
-abbrev pub decreases-loop-j : goal.decreases-loop-j
-decreases-loop-j l = kinds - l.j
+invariant-loop-j l = l.w ≡ sum l.j (weighted_part l.d l.repair)

@@ -2,15 +2,18 @@
 -- definition has it.
 -- Assumes nothing.
 use mathlib.Core.Path.{sym, ◌∙◌}
+use Rattle.std.proofs.lemmas.Result.{err_from_is_err_and}
 use native.Mathlib.Omega.{arith}
 use Rattle.commitments.proofs.ChangeStores.{refused_change, accepted_change, change_room}
 use Rattle.commitments.proofs.change.Goals as goal
 
 pub plus-then-requires : goal.plus-then-requires
-plus-then-requires c = change_room c.args.commitment.now c.args.mark.now c.args.offers.now c.args.units c.args.c _ _ _ _ _ c.hour_index-h.ensures.value c.entry_index-from.ensures.value c.entry_index-to.ensures.value c.member_at.ensures c.limit_in-last.ensures _ c.above-left.ensures (sym c.change_verdict-verdict.ensures ∙ c.in-Accepted.is) (omega arith) (omega arith)
+plus-then-requires c = change_room c.args.commitment.now c.args.mark.now c.args.offers.now c.args.units c.args.c _ _ _ _ _ c.hour_index-h.ensures.value c.entry_index-from.ensures.value c.entry_index-to.ensures.value c.member_at.ensures c.limit_in-last.ensures _ c.above-left.ensures (sym c.change_verdict.ensures ∙ c.in_ok-change_verdict.was) (omega arith) (omega arith)
 
-pub returns-in-Refused : goal.returns-in-Refused
-returns-in-Refused c = refused_change c.args.commitment.now c.args.mark.now c.args.offers.now c.args.units c.args.c _ _ _ _ _ c.hour_index-h.ensures.value c.entry_index-from.ensures.value c.entry_index-to.ensures.value c.member_at.ensures c.limit_in-last.ensures _ (sym c.change_verdict-verdict.ensures ∙ c.in-Refused.is)
+pub returns-in_err-change_verdict : goal.returns-in_err-change_verdict
+returns-in_err-change_verdict c =
+    let p = err_from_is_err_and c.from_residual.result c.from_residual.ensures.1 in
+    rw (p.1, p.2) (refused_change c.args.commitment.now c.args.mark.now c.args.offers.now c.args.units c.args.c _ _ _ _ _ c.hour_index-h.ensures.value c.entry_index-from.ensures.value c.entry_index-to.ensures.value c.member_at.ensures c.limit_in-last.ensures _ (sym c.change_verdict.ensures ∙ c.in_err-change_verdict.was))
 
-pub returns-in-Accepted : goal.returns-in-Accepted
-returns-in-Accepted c = accepted_change c.args.commitment.now c.args.mark.now c.args.offers.now c.args.units c.args.c _ _ _ _ _ c.hour_index-h.ensures.value c.entry_index-from.ensures.value c.entry_index-to.ensures.value c.member_at.ensures c.limit_in-last.ensures _ c.above-left.ensures (sym c.change_verdict-verdict.ensures ∙ c.in-Accepted.is) _ c.plus-then.ensures
+pub returns : goal.returns
+returns c = accepted_change c.args.commitment.now c.args.mark.now c.args.offers.now c.args.units c.args.c _ _ _ _ _ c.hour_index-h.ensures.value c.entry_index-from.ensures.value c.entry_index-to.ensures.value c.member_at.ensures c.limit_in-last.ensures _ c.above-left.ensures (sym c.change_verdict.ensures ∙ c.in_ok-change_verdict.was) _ c.plus-then.ensures

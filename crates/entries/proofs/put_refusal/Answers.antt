@@ -23,9 +23,9 @@ returns-else-number-le4 c =
     let n = refusal_number g.refusal in
     let first = c.put_bytes.ensures.result_after in
     let second = c.put_number.ensures.result_after in
-    let h : 4 < n = omega (arith, c.if-number-le4.false, c.refusal_number-number.ensures) in record {
+    let h : 4 < n = omega (arith, c.if-number-le4.false, c.number-number.ensures) in record {
       same_buffer = second.same_buffer ∙ first.same_buffer;
       bytes_after = simp (lt-ltb _ _ h)
-          (then o o1 (bytes "refused=") (digits n) first.bytes_after (second.bytes_after ∙ ap (λ (k : ℕ). written o1 (digits k)) c.refusal_number-number.ensures)
+          (then o o1 (bytes "refused=") (digits n) first.bytes_after (second.bytes_after ∙ ap (λ (k : ℕ). written o1 (digits k)) c.number-number.ensures)
           ∙ sym (written_end o (bytes "refused=" ++ digits n)));
     }

@@ -1,24 +1,11 @@
--- The commitments passed are those of the numbers.
--- Assumes nothing.
-use mathlib.Core.Path.{refl}
-use Prim.Native.Nat.{◌-◌}
-use native.Mathlib.Omega.{arith}
+-- Each commitment is that of its number.
+use Rattle.std.proofs.Common.{rules, ℕ}
 use lib.ListN.{get_or}
-use Rattle.state.specs.Sizes.{entries}
+use Rattle.finite.proofs.Chains.{tabulate_from_fn}
 use Rattle.numbers.specs.Numbers.{commitments_of}
-use Rattle.numbers.proofs.Filling.{filling_none, filling_next, filling_all}
 use Rattle.numbers.proofs.commitments_of.Goals as goal
-
-pub loop-j-init : goal.loop-j-init
-loop-j-init c = filling_none entries (λ j. record { 0 = get_or c.args.commitment.now j 0 }) (record { 0 = 0 })
-
-pub loop-j-preserved : goal.loop-j-preserved
-loop-j-preserved c =
-    let l = c.loop-j in
-    filling_next entries (λ j. record { 0 = get_or c.args.commitment.now j 0 }) l.out l.j _ l.invariant (omega arith) refl
 
 pub returns : goal.returns
 unfolding commitments_of
 returns c =
-    let l = c.loop-j in
-    filling_all entries (λ j. record { 0 = get_or c.args.commitment.now j 0 }) l.out l.j l.invariant (omega arith)
+    tabulate_from_fn (λ (j : ℕ). record { 0 = get_or c.args.commitment.now j 0 }) _ _ c.from_fn.ensures.items (λ i y q l k. search rules)

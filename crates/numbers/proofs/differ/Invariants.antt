@@ -1,4 +1,3 @@
-use Prim.Native.Nat.{◌-◌}
 use Rattle.numbers.specs.Numbers.{hour_items}
 use Rattle.numbers.proofs.Packed.{difference_in}
 use Rattle.numbers.proofs.Pasted.{Pasting}
@@ -6,6 +5,3 @@ use Rattle.numbers.proofs.differ.Given as goal
 
 abbrev pub invariant-loop-j : goal.invariant-loop-j
 invariant-loop-j l = Pasting hour_items (difference_in l.amounts l.h l.new) l.initial.rows l.at l.rows l.j
-
-abbrev pub decreases-loop-j : goal.decreases-loop-j
-decreases-loop-j l = hour_items - l.j

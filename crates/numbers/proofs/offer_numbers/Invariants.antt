@@ -1,13 +1,10 @@
 use mathlib.Core.Path.{◌≡◌}
-use Prim.Native.Nat.{◌*◌, ◌-◌, ◌≤◌}
+use Prim.Native.Nat.{◌*◌}
 use lib.ListN.{length}
-use Rattle.state.specs.Sizes.{places, entries}
+use Rattle.state.specs.Sizes.{entries}
 use Rattle.numbers.specs.Offers.{offer_size}
 use Rattle.numbers.proofs.OffersUnit.{Placed}
 use Rattle.numbers.proofs.offer_numbers.Given as goal
 
 abbrev pub invariant-loop-k : goal.invariant-loop-k
-invariant-loop-k l = (l.k ≤ places) × (length l.out ≡ offer_size * entries) × Placed l.sheet l.k l.out
-
-abbrev pub decreases-loop-k : goal.decreases-loop-k
-decreases-loop-k l = places - l.k
+invariant-loop-k l = (length l.out ≡ offer_size * entries) × Placed l.sheet l.k l.out

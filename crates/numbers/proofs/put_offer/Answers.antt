@@ -1,27 +1,21 @@
 -- The steps, the quantities and the prices are stored one behind the other; that the offer has ten of each its type says.
--- Assumes nothing.
-use mathlib.Core.Path.{◌≡◌, ◌∙◌}
-use native.Mathlib.Omega.{arith}
-use lib.ListN.{length, length-set, length-map}
+use Rattle.std.proofs.Common.{◌≡◌, sym, ◌∙◌, length, rules, arith}
+use Rattle.std.proofs.lemmas.Slice.{put_mid-paste}
+use Rattle.finite.proofs.Tables.{length_tabulate}
+use Rattle.offer.specs.Offer.{quantity_at, step_price}
+use Rattle.numbers.proofs.Listed.{own_entries}
+use Rattle.numbers.proofs.OffersRead.{quantities, prices}
 use Rattle.numbers.proofs.OffersPut.{offer_put}
-use borrow.Author.Rules.{rules}
 use Rattle.numbers.proofs.put_offer.Goals as goal
-
-pub put_quantities-requires : goal.put_quantities-requires
-put_quantities-requires c = simp length-set (omega arith)
-
-pub put_prices-requires : goal.put_prices-requires
-put_prices-requires c =
-    let q = c.put_quantities in
-    let e : length q.new.out ≡ length c.args.out.now = q.auto.out ∙ simp length-set in
-    omega arith
 
 pub returns : goal.returns
 returns c =
-    let q = c.put_quantities in
-    let p = c.put_prices in
+    let o = c.args.o.now in
+    let ten : length o.price ≡ 10 = search rules in
     record {
-      stored = offer_put c.args.o c.args.at c.args.out.now q.new.out p.new.out c.requires q.ensures p.ensures;
-      quantities = search rules;
-      prices = search rules;
+      stored = offer_put o c.args.at c.args.out.now _ _ c.requires
+          (put_mid-paste _ _ _ _ (quantities o) 10 (c.copy_from_slice.ensures.after ∙ c.quantities_of.ensures.numbers) (omega arith) (sym (length_tabulate 10 (λ i. (quantity_at o i).0))))
+          (put_mid-paste _ _ _ _ (prices o) 10 (c.copy_from_slice-2.ensures.after ∙ sym (own_entries 10 o.price 0 ten)) (omega arith) (sym (length_tabulate 10 (step_price o))));
+      quantities = c.quantities_of.ensures.ten;
+      prices = ten;
     }

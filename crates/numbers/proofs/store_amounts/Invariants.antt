@@ -1,5 +1,3 @@
-use Prim.Native.Nat.{◌-◌}
-use Rattle.state.specs.Sizes.{places}
 use Rattle.state.specs.Book.{past_amounts}
 use Rattle.numbers.specs.Numbers.{amounts_of}
 use Rattle.numbers.proofs.Stored.{StoredIn}
@@ -7,6 +5,3 @@ use Rattle.numbers.proofs.store_amounts.Given as goal
 
 abbrev pub invariant-loop-p : goal.invariant-loop-p
 invariant-loop-p l = StoredIn amounts_of past_amounts l.h l.units l.new l.initial.amounts l.p l.amounts
-
-abbrev pub decreases-loop-p : goal.decreases-loop-p
-decreases-loop-p l = places - l.p

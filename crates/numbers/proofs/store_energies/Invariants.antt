@@ -1,5 +1,3 @@
-use Prim.Native.Nat.{◌-◌}
-use Rattle.state.specs.Sizes.{places}
 use Rattle.state.specs.Book.{no_grains}
 use Rattle.numbers.specs.Numbers.{energies_of}
 use Rattle.numbers.proofs.Stored.{StoredIn}
@@ -7,6 +5,3 @@ use Rattle.numbers.proofs.store_energies.Given as goal
 
 abbrev pub invariant-loop-k : goal.invariant-loop-k
 invariant-loop-k l = StoredIn energies_of no_grains l.h l.units l.new l.initial.energy l.k l.energy
-
-abbrev pub decreases-loop-k : goal.decreases-loop-k
-decreases-loop-k l = places - l.k

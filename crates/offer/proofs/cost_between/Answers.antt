@@ -1,47 +1,29 @@
 -- The loop keeps that the cost so far and that by the steps from s on are the whole: a turn adds the step's grains at its price, and in the
 -- last step all that are left. The whole is at most 10^7 a grain, 10^18 in all, so nothing wraps.
 -- Assumes nothing.
-use mathlib.Core.Path.{◌≡◌, refl, ap, sym, ◌∙◌}
+use mathlib.Core.Path.{◌≡◌, refl, ap, ap₂, sym, ◌∙◌}
 use Prim.Native.Nat.{ℕ, ◌+◌, ◌*◌, ◌-◌, max}
 use native.Mathlib.Omega.{arith}
 use Rattle.energy.specs.declared.HubGrains.{HubGrains}
 use Rattle.energy.specs.Energy.{grains_of}
+use Rattle.energy.proofs.Order.{min_amount, max_amount}
 use Rattle.offer.specs.Offer.{step_price}
 use Rattle.offer.specs.Modified.{cost_between}
 use Rattle.offer.proofs.Costs.{cost_between_le}
-use Rattle.offer.proofs.Steps.{holds}
 use Rattle.offer.proofs.Quick.{cost_on, cost_steps, cost_next, cost_last}
-use Rattle.offer.proofs.cost_between.Goals.{After-above, After-above-2, After-greater-at}
+use Rattle.offer.proofs.cost_between.Goals.{After-above, After-above-2, After-max-at}
 use Rattle.offer.proofs.cost_between.Goals as goal
 
 -- the cost is that of the steps, from `from` or the commitment on, and bounded
-total : (c : After-greater-at) → cost_between c.args.offer c.args.commitment c.args.from.0 c.args.to.0 ≡ cost_on c.args.offer 0 c.greater-at.result.0 c.args.to.0
+total : (c : After-max-at) → cost_between c.args.offer c.args.commitment c.args.from.0 c.args.to.0 ≡ cost_on c.args.offer 0 c.max-at.result.0 c.args.to.0
 total c =
     let a = c.args in
     let g = ap (λ (n : HubGrains). n.0) c.grains_of-committed.ensures in
-    let e : max a.from.0 (grains_of a.commitment).0 ≡ c.greater-at.result.0 = omega (arith, g, c.greater-at.ensures) in
+    let e : max a.from.0 (grains_of a.commitment).0 ≡ c.max-at.result.0 = omega (arith, max_amount (λ (g : HubGrains). g.0) _ a.from c.grains_of-committed.result c.max-at.ensures) in
     cost_steps a.offer a.commitment a.from.0 a.to.0 c.requires.2 ∙ ap (λ (n : ℕ). cost_on a.offer 0 n a.to.0) e
 
-pub overflow_sub-last : goal.overflow_sub-last
-overflow_sub-last c = (holds c.args.offer c.requires.0).least
-
 pub loop-s-init : goal.loop-s-init
-loop-s-init c = (omega arith, omega arith, omega (arith, total c, cost_between_le c.args.offer c.args.commitment c.requires.0 c.args.from.0 c.args.to.0 c.requires.2, c.requires.3))
-
-pub offset_bounds-offer-s : goal.offset_bounds-offer-s
-offset_bounds-offer-s c = omega (arith, (holds c.args.offer c.requires.0).most)
-
-pub bounds-offer-s : goal.bounds-offer-s
-bounds-offer-s c = omega (arith, (holds c.args.offer c.requires.0).most)
-
-pub grains_of-end-requires : goal.grains_of-end-requires
-grains_of-end-requires c = omega (arith, (holds c.args.offer c.requires.0).quantity_most c.loop-s.s (omega arith))
-
-pub offset_bounds-offer-s-in-loop-s : goal.offset_bounds-offer-s-in-loop-s
-offset_bounds-offer-s-in-loop-s c = omega (arith, (holds c.args.offer c.requires.0).most)
-
-pub bounds-offer-s-in-loop-s : goal.bounds-offer-s-in-loop-s
-bounds-offer-s-in-loop-s c = omega (arith, (holds c.args.offer c.requires.0).most)
+loop-s-init c = (omega arith, omega (arith, total c, cost_between_le c.args.offer c.args.commitment c.requires.0 c.args.from.0 c.args.to.0 c.requires.2, c.requires.3))
 
 -- a turn: the step's grains, then the later steps from the place `next` on
 turn : (c : After-above) (next : ℕ) → next ≡ max c.loop-s.at.0 c.grains_of-end.result.0 → cost_on c.args.offer c.loop-s.s c.loop-s.at.0 c.args.to.0 ≡ c.above.result.0 * step_price c.args.offer c.loop-s.s + cost_on c.args.offer (c.loop-s.s + 1) next c.args.to.0
@@ -50,10 +32,10 @@ turn c next e =
     let l = c.loop-s in
     let q = ap (λ (n : HubGrains). n.0) c.grains_of-end.ensures in
     cost_next a.offer l.s l.at.0 a.to.0 c.above.result.0 next c.loop-s-test.true
-    (omega (arith, q, c.above.ensures, c.lesser.ensures)) (omega (arith, q, e))
+    (omega (arith, c.above.ensures, min_amount (λ (g : HubGrains). g.0) _ c.grains_of-end.result a.to c.min.ensures)) (omega (arith, q, e))
 
 pub cost-cost-requires : goal.cost-cost-requires
-cost-cost-requires c = omega (arith, turn c _ refl, c.loop-s.invariant)
+cost-cost-requires c = omega (arith, turn (goal.at.cost-cost-requires c).After-above _ refl, c.loop-s.invariant)
 
 pub overflow_add-cost : goal.overflow_add-cost
 overflow_add-cost c = omega (arith, c.cost-cost.ensures, turn (goal.at.overflow_add-cost c).After-above _ refl, c.loop-s.invariant)
@@ -61,26 +43,21 @@ overflow_add-cost c = omega (arith, c.cost-cost.ensures, turn (goal.at.overflow_
 pub loop-s-preserved : goal.loop-s-preserved
 loop-s-preserved c =
     let i = c.loop-s.invariant in
-    (omega arith, omega (arith, c.cost-cost.ensures, turn (goal.at.loop-s-preserved c).After-above c.greater-at-in-loop-s.result.0 c.greater-at-in-loop-s.ensures), i.2)
-
-pub offset_bounds-offer-s-2 : goal.offset_bounds-offer-s-2
-offset_bounds-offer-s-2 c = omega (arith, (holds c.args.offer c.requires.0).most)
-
-pub bounds-offer-s-2 : goal.bounds-offer-s-2
-bounds-offer-s-2 c = omega (arith, (holds c.args.offer c.requires.0).most, (holds c.args.offer c.requires.0).least)
+    (omega (arith, c.cost-cost.ensures, turn (goal.at.loop-s-preserved c).After-above c.max-at-in-loop-s.result.0 (max_amount (λ (g : HubGrains). g.0) _ c.loop-s.at c.grains_of-end.result c.max-at-in-loop-s.ensures)), i.1)
 
 -- the last step, with all grains that are left
-left : (c : After-above-2) → cost_on c.args.offer c.loop-s.s c.loop-s.at.0 c.args.to.0 ≡ c.above-2.result.0 * step_price c.args.offer c.loop-s.s
+left : (c : After-above-2) → cost_on c.args.offer c.loop-s.s c.loop-s.at.0 c.args.to.0 ≡ c.above-2.result.0 * step_price c.args.offer (c.args.offer.steps - 1)
 left c =
     let a = c.args in
     let l = c.loop-s in
-    cost_last a.offer l.s l.at.0 a.to.0 (omega arith) ∙ ap (λ (n : ℕ). n * step_price a.offer l.s) (sym c.above-2.ensures)
+    let last : l.s ≡ a.offer.steps - 1 = omega arith in
+    cost_last a.offer l.s l.at.0 a.to.0 (omega arith) ∙ ap₂ (λ (n s : ℕ). n * step_price a.offer s) (sym c.above-2.ensures) last
 
 pub cost-requires : goal.cost-requires
-cost-requires c = omega (arith, left c, c.loop-s.invariant)
+cost-requires c = omega (arith, left (goal.at.cost-requires c).After-above-2, c.loop-s.invariant)
 
 pub overflow_add-result : goal.overflow_add-result
 overflow_add-result c = omega (arith, c.cost.ensures, left (goal.at.overflow_add-result c).After-above-2, c.loop-s.invariant)
 
 pub returns : goal.returns
-returns c = omega (arith, c.cost.ensures, total (goal.at.returns c).After-greater-at, left (goal.at.returns c).After-above-2, c.loop-s.invariant)
+returns c = omega (arith, c.cost.ensures, total (goal.at.returns c).After-max-at, left (goal.at.returns c).After-above-2, c.loop-s.invariant)

@@ -1,5 +1,5 @@
 use mathlib.Core.Path.{◌≡◌}
-use Prim.Native.Nat.{◌*◌, ◌-◌, ◌≤◌}
+use Prim.Native.Nat.{◌*◌}
 use lib.ListN.{length, take}
 use Rattle.finite.specs.Finite.{tabulate}
 use Rattle.postings.specs.Plan.{plan_rows}
@@ -8,8 +8,4 @@ use Rattle.postings.proofs.Entries.{row_by}
 use Rattle.postings.proofs.rows_of.Given as goal
 
 abbrev pub invariant-loop-k : goal.invariant-loop-k
-invariant-loop-k l =
-    (l.k ≤ l.size * l.filled) × (length l.row ≡ most_entries * plan_rows) × (take l.k l.row ≡ tabulate l.k (row_by l.place l.size l.hours l.amounts))
-
-abbrev pub decreases-loop-k : goal.decreases-loop-k
-decreases-loop-k l = l.size * l.filled - l.k
+invariant-loop-k l = (length l.row ≡ most_entries * plan_rows) × (take l.k l.row ≡ tabulate l.k (row_by l.place l.size l.hours l.amounts))

@@ -1,41 +1,53 @@
--- The total is that of the spans passed; one that exceeds what is left makes it more than 60.
+-- What is left of the hour is 60 less the minutes of the spans passed; a span that has more than what is left makes them more than 60.
 -- Assumes nothing.
-use Prim.Native.Nat.{ℕ, ◌+◌, ◌-◌, ◌≤◌}
-use mathlib.Core.Path.{◌≡◌, refl, ap, sym, ◌∙◌}
-use native.Mathlib.Omega.{arith}
-use borrow.Author.Tests.{ne_eqb}
-use lib.Dec.{eqb}
+use Rattle.std.proofs.Common.{◌≡◌, sym, ◌∙◌, ap, ℕ, ◌+◌, ◌<◌, get_or, take, arith, eqb}
+use Rattle.std.proofs.lemmas.List.{length-take, get_or-take}
+use native.Mathlib.Decide.{ℕ_discrete}
+use borrow.Author.Tests.{eq-eqb, ne_eqb}
 use Rattle.finite.specs.Finite.{sum}
 use Rattle.finite.proofs.Sums.{sum_next, sum_has}
+use Rattle.record.specs.declared.Span.{Span}
 use Rattle.record.specs.Spans.{span_at, span_count, minutes_of}
-use Rattle.record.proofs.unit_minutes.Goals.{then-n-gt6, else-n-gt6}
+use Rattle.record.specs.Empty.{no_span}
 use Rattle.record.proofs.unit_minutes.Goals as goal
 
-pub loop-i-init : goal.loop-i-init
+-- nothing is left where the spans have all of the hour
+all_told : (left told : ℕ) → left + told ≡ 60 → eqb left 0 ≡ eqb told 60
+all_told left told e = by (ℕ_discrete left 0)
+  where
+    by : Dec (left ≡ 0) → eqb left 0 ≡ eqb told 60
+    by (yes z) = eq-eqb left 0 z ∙ sym (eq-eqb told 60 (omega arith))
+    by (no some) = ne_eqb left 0 some ∙ sym (ne_eqb told 60 (λ h. some (omega arith)))
+
+pub loop-span-init : goal.loop-span-init
 unfolding sum
-loop-i-init c = (omega arith, elim c.if-n-gt6.branch [ then-n-gt6 w ↦ omega arith | else-n-gt6 w ↦ omega arith ], omega arith, refl)
+loop-span-init c = omega arith
 
-pub returns-then-s-total : goal.returns-then-s-total
+pub returns-in_default : goal.returns-in_default
 unfolding minutes_of
-returns-then-s-total c =
-    let l = c.loop-i in
+returns-in_default c =
     let u = c.args.u in
-    let more : sum l.i (λ i. (span_at u i).minutes) + (span_at u l.i).minutes ≤ minutes_of u = sum_has (span_count u) l.i (λ i. (span_at u i).minutes) (omega arith) in
-    sym (ne_eqb (minutes_of u) 60 (λ e. omega arith))
+    let i = c.loop-span.span-index in
+    let long : i < c.min-n.result = omega (arith, length-take c.min-n.result u.span) in
+    let its : get_or (take c.min-n.result u.span) i no_span ≡ span_at u i = get_or-take c.min-n.result u.span i no_span long in
+    let its' = ap (λ (s : Span). s.minutes) its in
+    let some = sum_has (span_count u) i (λ i. (span_at u i).minutes) (omega arith) in
+    let more = c.in_default.ensures in
+    sym (ne_eqb (minutes_of u) 60 (λ e. omega (arith, more)))
 
-pub overflow_add-total : goal.overflow_add-total
-overflow_add-total c = omega arith
-
-pub loop-i-preserved : goal.loop-i-preserved
-loop-i-preserved c =
-    let l = c.loop-i in
+pub loop-span-preserved : goal.loop-span-preserved
+loop-span-preserved c =
     let u = c.args.u in
-    let next = sum_next l.i (λ i. (span_at u i).minutes) in (omega arith, l.invariant.1, omega arith, omega arith)
+    let i = c.loop-span.span-index in
+    let long : i < c.min-n.result = omega (arith, length-take c.min-n.result u.span) in
+    let its : get_or (take c.min-n.result u.span) i no_span ≡ span_at u i = get_or-take c.min-n.result u.span i no_span long in
+    let its' = ap (λ (s : Span). s.minutes) its in
+    let next = sum_next i (λ i. (span_at u i).minutes) in
+    omega (arith, c.in-Some.ensures)
 
 pub returns : goal.returns
 unfolding minutes_of
 returns c =
-    let l = c.loop-i in
     let u = c.args.u in
-    let all : l.i ≡ span_count u = omega arith in
-    ap (λ (n : ℕ). eqb n 60) (l.invariant.3 ∙ ap (λ (n : ℕ). sum n (λ i. (span_at u i).minutes)) all)
+    let all : c.loop-span.span-index ≡ span_count u = omega (arith, length-take c.min-n.result u.span) in
+    all_told c.loop-span.left (minutes_of u) (rw (sym all) c.loop-span.invariant)

@@ -1,41 +1,20 @@
--- Each place passed has a proportion, by its unit's own use.
+-- The test of each place is the definition's; a unit of the plant is in the ranges that the test asks for.
 -- Assumes nothing.
-use mathlib.Core.Path.{◌≡◌, refl, ap, sym, ◌∙◌}
-use Prim.Native.Nat.{ℕ}
-use native.Mathlib.Omega.{arith}
-use borrow.Author.Tests.{not-true, not-false}
-use Rattle.finite.specs.Finite.{every}
-use Rattle.finite.proofs.Tests.{every_next, every_fails}
+use Rattle.std.proofs.Common.{rules, cond, true, get_or, arith}
+use Rattle.std.proofs.lemmas.Iterator.{serves_from_Range}
+use Rattle.finite.proofs.Chains.{every_range}
+use Rattle.units.specs.Units.{member_at}
+use Rattle.record.specs.Spans.{unit_at}
+use Rattle.deviation.specs.Proportions.{unit_proportioned}
 use Rattle.settlement.specs.Ranges.{proportions_by}
 use Rattle.settlement.proofs.Taken.{given_unit}
-use Rattle.settlement.proofs.proportions_hold.Invariants.{at}
 use Rattle.settlement.proofs.proportions_hold.Goals as goal
 
-pub loop-k-init : goal.loop-k-init
-unfolding every
-loop-k-init c = (omega arith, refl)
-
-pub proportioned_at-requires : goal.proportioned_at-requires
-proportioned_at-requires c = λ m.
-    given_unit c.args.day c.args.hour c.requires c.loop-k.k (omega arith) m
-
-pub returns-then-not-proportioned_at : goal.returns-then-not-proportioned_at
-unfolding proportions_by
-returns-then-not-proportioned_at c =
-    let a = c.args in
-    let k = c.loop-k.k in
-    sym (every_fails 8 k (at a.day.units a.day.own a.hour) (omega arith) (sym c.proportioned_at.ensures ∙ not-true _ c.if-not-proportioned_at.true-raw))
-
-pub loop-k-preserved : goal.loop-k-preserved
-loop-k-preserved c =
-    let a = c.args in
-    let l = c.loop-k in
-    (omega arith, every_next l.k (at a.day.units a.day.own a.hour) l.invariant.1 (sym c.proportioned_at.ensures ∙ not-false _ c.if-not-proportioned_at.false-raw))
+pub all-requires-clause-callable : goal.all-requires-clause-callable
+all-requires-clause-callable c = serves_from_Range (λ x q k. search rules) (λ x low high. let g = given_unit c.args.day c.args.hour c.requires x high in search rules)
 
 pub returns : goal.returns
 unfolding proportions_by
 returns c =
     let a = c.args in
-    let l = c.loop-k in
-    let e : l.k ≡ 8 = omega arith in
-    sym (sym (ap (λ (n : ℕ). every n (at a.day.units a.day.own a.hour)) e) ∙ l.invariant.1)
+    every_range (λ k. cond (member_at a.day.units k) (unit_proportioned (get_or a.day.own k 0) (unit_at a.hour k)) true) 8 _ (search rules) c.all.ensures.ran (λ x y q k. search rules)

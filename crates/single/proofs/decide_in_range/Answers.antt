@@ -2,13 +2,11 @@
 -- kept. The laws are in `Ready`; here is where each part of them stands.
 -- Assumes nothing.
 use mathlib.Core.Path.{refl, sym, ◌∙◌}
-use mathlib.Core.List.{List}
 use native.Mathlib.Omega.{arith}
-use lib.IntN.{ℤ, pos}
+use lib.IntN.{pos}
 use lib.ListN.{replicate}
 use Rattle.sheet.proofs.InRange.{in_range_lem}
 use Rattle.state.specs.Book.{Sized}
-use Rattle.ledger.specs.Ledger.{Call}
 use Rattle.ledger.specs.Calls.{request_of, request_decided}
 use Rattle.decisions.specs.Calls.{call_of}
 use Rattle.numbers.proofs.Typed.{typed_sized}

@@ -4,5 +4,5 @@ use mathlib.Core.Path.{sym, ap, ◌∙◌}
 use Rattle.single.specs.Single.{twelve_or9}
 use Rattle.single.proofs.twelve_or_9.Goals as goal
 
-pub returns-in-Refused : goal.returns-in-Refused
-returns-in-Refused c = c.nine_first.ensures ∙ sym (ap twelve_or9 c.in-Refused.is)
+pub returns-in-Err : goal.returns-in-Err
+returns-in-Err c = c.nine_first.ensures ∙ sym (ap twelve_or9 c.in-Err.is)
