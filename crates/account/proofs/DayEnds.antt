@@ -14,7 +14,9 @@ use lib.ListN.{length, drop}
 use Rattle.text.specs.Text.{before, has, value_part, key_is}
 use Rattle.text.specs.Rows.{word}
 use Rattle.values.specs.Values.{value_of}
+use Rattle.std.specs.Prelude.{Result, Ok, Err}
 use Rattle.text.specs.declared.Line.{Line}
+use Rattle.text.specs.declared.TextFault.{TextFault}
 use Rattle.lines.specs.declared.ReadAnswer.{ReadAnswer}
 use Rattle.lines.specs.declared.ReadAnswer.TheVariants.{Read, Refused as Unread}
 use Rattle.lines.specs.declared.TextRefusal.{TextRefusal}
@@ -44,10 +46,10 @@ data Lasts (text : List ℕ) (x : Due) : Type 0 where
   take_due : (hour unit kwh : ℕ) → x.asked ≡ take_asked hour unit kwh → 0 < x.left → length text < x.after + x.left → Lasts text x
   settle_due : (at : ℕ) → x.asked ≡ settle_asked text at → 0 < x.left → length text ≤ at + x.left → Lasts text x
 
-take_lasts : (text : List ℕ) (left after : ℕ) (good : Bool) (hour unit kwh code : ℕ) → 0 < left - 1 → length text < after + (left - 1)
-    → Lasts text (due_with left (cond good (Asks (take_asked hour unit kwh) after) (Bad code)))
-take_lasts text left after true hour unit kwh code some enough = take_due hour unit kwh refl some enough
-take_lasts text left after false hour unit kwh code some enough = none refl
+take_lasts : (text : List ℕ) (left after : ℕ) (r : Result Line TextFault) → 0 < left - 1 → length text < after + (left - 1)
+    → Lasts text (due_with left (take_of r after))
+take_lasts text left after (Ok l) some enough = take_due _ _ _ refl some enough
+take_lasts text left after (Err f) some enough = none refl
 
 settle_lasts : (text : List ℕ) (left at : ℕ) (due : Bool) → 0 < left - 1 → length text ≤ at + (left - 1)
     → Lasts text (due_with left (cond due (settle_of text at) (Bad 1)))
@@ -61,7 +63,7 @@ due_lasts text at left enough = by (ltb at (length text)) refl (has 10 (drop at 
     line : List ℕ
     line = before 10 (drop at text)
 
-    read : Line
+    read : Result Line TextFault
     read = value_of take_row (value_part line)
 
     by : (t : Bool) → ltb at (length text) ≡ t → (ended taken : Bool)
@@ -71,7 +73,7 @@ due_lasts text at left enough = by (ltb at (length text)) refl (has 10 (drop at 
     by true e false taken = none refl
     by true e true true =
         let inside : at < length text = ltb-true _ _ e in
-        take_lasts text left (place_after text at) (eqb read.code 0) _ _ _ _ (omega arith) (omega arith)
+        take_lasts text left (place_after text at) read (omega arith) (omega arith)
     by true e true false =
         let inside : at < length text = ltb-true _ _ e in
         settle_lasts text left at (key_is line (word "hour")) (omega arith) (omega arith)

@@ -1,9 +1,11 @@
 -- The day's text behind its sheet, each call carried out as it comes (01, Program and marked figures).
-use Rattle.std.specs.Prelude.{ℕ, zero, suc, ◌-◌, cond, List, [], ◌∷◌, eqb, ltb, length, drop, get_or, replicate, Ok, Err}
+use Rattle.std.specs.Prelude.{ℕ, zero, suc, ◌-◌, false, cond, List, [], ◌∷◌, eqb, ltb, length, drop, get_or, replicate, Result, Ok, Err}
 use Rattle.text.specs.Text.{before, has, value_part, key_is}
 use Rattle.text.specs.Rows.{word, limits}
 use Rattle.values.specs.Values.{value_of}
 use Rattle.text.specs.declared.Row.{Row}
+use Rattle.text.specs.Text.{fault_number}
+use Rattle.text.specs.declared.TextFault.{TextFault}
 use Rattle.text.specs.declared.Line.{Line}
 use Rattle.lines.specs.Lines.{place_after}
 use Rattle.sheet.specs.declared.Sheet.{Sheet}
@@ -34,8 +36,8 @@ take_row =
     record {
       key = word "take";
       word = word "";
-      blank = 0;
-      order = 0;
+      blank = false;
+      order = false;
       parts = 3;
       most = 3;
       low = limits 0 0 0 0;
@@ -50,9 +52,9 @@ abbrev pub settle_asked : List ℕ → (at : ℕ) → Asked
 settle_asked text at = record { kind = 4; hour = 0; unit = 0; to = 0; kwh = 0; begin = 0; end = length text; start = at }
 
 -- the take of a line, with the place after it
-abbrev pub take_of : Line → (after : ℕ) → Next
-take_of l after =
-    cond (eqb l.code 0) (Asks (take_asked (get_or l.number 0 0) (get_or l.number 1 0) (get_or l.number 2 0)) after) (Bad l.code)
+abbrev pub take_of : Result Line TextFault → (after : ℕ) → Next
+take_of (Ok l) after = Asks (take_asked (get_or l.number 0 0) (get_or l.number 1 0) (get_or l.number 2 0)) after
+take_of (Err f) after = Bad (fault_number f)
 
 -- the settle of the record that begins at a place
 abbrev pub settle_of : List ℕ → (at : ℕ) → Next

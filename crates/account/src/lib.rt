@@ -16,7 +16,7 @@ use ledger::{Asked, Effect, Refusal};
 use lines::ReadAnswer;
 use sheet::Sheet;
 use state::Book;
-use text::{Line, Row};
+use text::{Line, Row, TextFault};
 
 // What comes at a place of the text: its end, a line that is refused with a number, or a call with the place after its line.
 #[derive(Clone, Copy)]
@@ -53,8 +53,8 @@ fn take_row() -> Row
     Row {
         key: *b"take======",
         word: *b"==========",
-        blank: 0,
-        order: 0,
+        blank: false,
+        order: false,
         parts: 3,
         most: 3,
         low: [0, 0, 0, 0],
@@ -78,26 +78,25 @@ fn no_call() -> Asked
 }
 
 // The take of a line's numbers.
-fn take_of(line: Line, after: usize) -> Next
+fn take_of(line: Result<Line, TextFault>, after: usize) -> Next
     ensures { result ≡ take_of line after }
 {
-    if line.code == 0 {
-        let number = line.number;
-        return Next::Asks(
+    match line {
+        Ok(line) => Next::Asks(
             Asked {
                 kind: 1,
-                hour: number[0],
-                unit: number[1],
+                hour: line.number[0],
+                unit: line.number[1],
                 to: 0,
-                kwh: number[2],
+                kwh: line.number[2],
                 begin: 0,
                 end: 0,
                 start: 0,
             },
             after,
-        );
+        ),
+        Err(fault) => Next::Bad(fault.number()),
     }
-    Next::Bad(line.code)
 }
 
 // The settle of the record that begins at a place.
@@ -132,8 +131,7 @@ fn next_at(text: &[u8], at: usize) -> Next
     }
     let line = &text[at..e];
     if text::key_is(line, *b"take======") {
-        let l = values::read_value(text::value_of(line), take_row());
-        return take_of(l, e + 1);
+        return take_of(values::read_value(text::value_of(line), take_row()), e + 1);
     }
     if text::key_is(line, *b"hour======") {
         return settle_at(text, at);
@@ -279,7 +277,7 @@ fn put_statement(out: &mut Writer, text: &[u8])
             put_day(out, sheet.units, &day);
         }
         ReadAnswer::Refused(refusal) => {
-            listing::put_refusal(out, lines::text_number(refusal));
+            listing::put_refusal(out, refusal.number());
         }
     }
 }

@@ -1,86 +1,76 @@
 // Largest remainder: a total divided among any number of parts by their weights.
 #![tactic(auto)]
 
-ghost use Rattle.std.specs.Prelude.{◌≡◌, ◌*◌, ◌^◌, ◌<◌, length, replicate};
+ghost use Rattle.std.specs.Prelude.{◌≡◌, ◌^◌, ◌<◌, length, sum};
 ghost use Rattle.finite.specs.Finite.{tabulate};
 ghost use Rattle.apportion.specs.Shares.{remainder_left, sum_of, quotient, remainder, shares as the_shares, largest as the_largest, add_ones, Fits, Due};
 
+// A total to be divided by weights, of which some is over 0: `all` is what they add up to.
+#[derive(Drop)]
+struct Division<'a> {
+    weights: &'a [u64],
+    total: u64,
+    all: u64,
+    ghost some: { 0 < all },
+    ghost fits: { Fits weights.now total },
+}
+
 fn sum_of(s: &[u64]) -> u64
-    requires { sum_of s.now < 2 ^ 64 }
-    ensures { result ≡ sum_of s.now }
+    requires { sum s.now < 2 ^ 64 }
+    ensures { result ≡ sum s.now }
 {
-    let mut sum: u64 = 0;
-    let mut i = 0;
-    while i < s.len() {
-        sum += s[i];
-        i += 1;
-    }
-    sum
+    s.iter().sum()
 }
 
-// A part's remainder, or 0 once the part has more than its quotient.
-fn remainder_left(weights: &[u64], total: u64, all: u64, shares: &[u64], i: usize) -> u64
-    requires { (i < length weights.now) × (i < length shares.now) × (0 < all) × Fits weights.now total }
-    ensures { result ≡ remainder_left (quotient all total weights.now) (remainder all total weights.now) shares.now i }
-{
-    let x = total * weights[i];
-    if shares[i] == x / all {
-        return x % all;
-    }
-    0
-}
-
-// The part with the largest remainder, the lowest of equal ones.
-fn largest(weights: &[u64], total: u64, all: u64, shares: &[u64]) -> usize
-    requires { (length shares.now ≡ length weights.now) × (0 < length weights.now) × (0 < all) × Fits weights.now total }
-    ensures { result ≡ the_largest (quotient all total weights.now) (remainder all total weights.now) shares.now (length weights.now) }
-{
-    let mut part = 0;
-    let mut most = remainder_left(weights, total, all, shares, 0);
-    let mut i = 1;
-    while i < weights.len() {
-        let x = remainder_left(weights, total, all, shares, i);
-        if most < x {
-            part = i;
-            most = x;
+impl Division<'_> {
+    // A part's remainder, or 0 once the part has more than its quotient.
+    fn remainder_left(&self, shares: &[u64], i: usize) -> u64
+        requires { (i < length self.now.weights.now) × (i < length shares.now) }
+        ensures { result ≡ remainder_left (quotient self.now.all self.now.total self.now.weights.now) (remainder self.now.all self.now.total self.now.weights.now) shares.now i }
+    {
+        let x = self.total * self.weights[i];
+        if shares[i] == x / self.all {
+            return x % self.all;
         }
-        i += 1;
+        0
     }
-    part
-}
 
-fn zeros(shares: &mut [u64])
-    ensures { shares.new ≡ replicate (length shares.old) 0 }
-{
-    let mut i = 0;
-    while i < shares.len() {
-        shares[i] = 0;
-        i += 1;
+    // The part with the largest remainder, the lowest of equal ones.
+    fn largest(&self, shares: &[u64]) -> usize
+        requires { (length shares.now ≡ length self.now.weights.now) × (0 < length self.now.weights.now) }
+        ensures { result ≡ the_largest (quotient self.now.all self.now.total self.now.weights.now) (remainder self.now.all self.now.total self.now.weights.now) shares.now (length self.now.weights.now) }
+    {
+        let mut part = 0;
+        let mut most = self.remainder_left(shares, 0);
+        for i in 1..self.weights.len() {
+            let x = self.remainder_left(shares, i);
+            if most < x {
+                part = i;
+                most = x;
+            }
+        }
+        part
     }
-}
 
-// Each part's quotient, rounded down.
-fn quotients(weights: &[u64], total: u64, all: u64, shares: &mut [u64])
-    requires { (length shares.old ≡ length weights.now) × (0 < all) × Fits weights.now total }
-    ensures { shares.new ≡ tabulate (length weights.now) (quotient all total weights.now) }
-{
-    let mut i = 0;
-    while i < weights.len() {
-        shares[i] = total * weights[i] / all;
-        i += 1;
+    // Each part's quotient, rounded down.
+    fn quotients(&self, shares: &mut [u64])
+        requires { length shares.old ≡ length self.now.weights.now }
+        ensures { shares.new ≡ tabulate (length self.now.weights.now) (quotient self.now.all self.now.total self.now.weights.now) }
+    {
+        for (i, share) in shares.iter_mut().enumerate() {
+            *share = self.total * self.weights[i] / self.all;
+        }
     }
-}
 
-// One each to the largest remainders, `rest` in all.
-fn add_ones(weights: &[u64], total: u64, all: u64, rest: u64, shares: &mut [u64])
-    requires { Due weights.now total all rest shares.old }
-    ensures { shares.new ≡ add_ones (quotient all total weights.now) (remainder all total weights.now) (length weights.now) rest shares.old }
-{
-    let mut added: u64 = 0;
-    while added < rest {
-        let part = largest(weights, total, all, shares);
-        shares[part] += 1;
-        added += 1;
+    // One each to the largest remainders, `rest` in all.
+    fn add_ones(&self, rest: u64, shares: &mut [u64])
+        requires { Due self.now.weights.now self.now.total self.now.all rest shares.old }
+        ensures { shares.new ≡ add_ones (quotient self.now.all self.now.total self.now.weights.now) (remainder self.now.all self.now.total self.now.weights.now) (length self.now.weights.now) rest shares.old }
+    {
+        for _added in 0..rest {
+            let part = self.largest(shares);
+            shares[part] += 1;
+        }
     }
 }
 
@@ -91,10 +81,15 @@ pub fn apportion(weights: &[u64], total: u64, shares: &mut [u64])
 {
     let all = sum_of(weights);
     if all == 0 {
-        zeros(shares);
+        shares.fill(0);
         return;
     }
-    quotients(weights, total, all, shares);
+    let d = Division {
+        weights,
+        total,
+        all,
+    };
+    d.quotients(shares);
     let rest = total - sum_of(shares);
-    add_ones(weights, total, all, rest, shares);
+    d.add_ones(rest, shares);
 }

@@ -11,10 +11,12 @@ use lib.Dec.{ltb, eqb}
 use lib.ListN.{length, drop}
 use Rattle.text.specs.Text.{seek, before, has, value_part}
 use Rattle.values.specs.Values.{value_of}
+use Rattle.std.specs.Prelude.{Result, Ok, Err}
 use Rattle.text.specs.declared.Line.{Line}
+use Rattle.text.specs.declared.TextFault.{TextFault}
 use Rattle.record_end.specs.End.{behind_record}
 use Rattle.asks.specs.declared.Asking.{Asking}
-use Rattle.asks.specs.Asks.{kind_of, row_of, not_asked, next_of, asking_of, asking_at}
+use Rattle.asks.specs.Asks.{kind_of, row_of, not_asked, next_of, asking_by, asking_at}
 use Rattle.asks.specs.Extent.{counted, stop_at, line_number, extent_by, extent_of}
 
 -- the next call begins behind the line
@@ -29,25 +31,20 @@ next_behind text kind after = by (eqb kind 4) (eqb kind 5)
 
 asked_behind : (text : List ℕ) (at : ℕ) → (asking_at text at).refusal ≡ 0 → at < (asking_at text at).next
 unfolding asking_at
-asked_behind text at = by (has 10 (drop at text)) (eqb (kind_of line) 0) (eqb read.code 0)
+asked_behind text at = by (has 10 (drop at text)) (eqb (kind_of line) 0) (value_of (row_of (kind_of line)) (value_part line))
   where
     line : List ℕ
     line = before 10 (drop at text)
 
-    read : Line
-    read = value_of (row_of (kind_of line)) (value_part line)
+    asked : (ended unknown : Bool) → Result Line TextFault → Asking
+    asked ended unknown read =
+        cond ended (cond unknown (not_asked 1 at) (asking_by text (kind_of line) at (at + seek 10 10 (drop at text)) read)) (not_asked 4 at)
 
-    asked : (ended unknown good : Bool) → Asking
-    asked ended unknown good =
-        cond ended
-        (cond unknown (not_asked 1 at) (cond good (asking_of text (kind_of line) read.number (at + seek 10 10 (drop at text))) (not_asked 2 at)))
-        (not_asked 4 at)
-
-    by : (ended unknown good : Bool) → (asked ended unknown good).refusal ≡ 0 → at < (asked ended unknown good).next
-    by false unknown good e = omega arith
-    by true true good e = omega arith
-    by true false false e = omega arith
-    by true false true e = omega (arith, next_behind text (kind_of line) (at + seek 10 10 (drop at text) + 1))
+    by : (ended unknown : Bool) (read : Result Line TextFault) → (asked ended unknown read).refusal ≡ 0 → at < (asked ended unknown read).next
+    by false unknown read e = omega arith
+    by true true read e = omega arith
+    by true false (Err f) e = omega arith
+    by true false (Ok l) e = omega (arith, next_behind text (kind_of line) (at + seek 10 10 (drop at text) + 1))
 
 -- any two counts that last give the same
 enough : (n m : ℕ) (text : List ℕ) (at : ℕ) → length text ≤ at + n → length text ≤ at + m → extent_by n text at ≡ extent_by m text at

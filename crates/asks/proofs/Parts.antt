@@ -10,8 +10,7 @@ use lib.ListN.{length, drop, take, get_or, length-drop, drop_of_length-le}
 use lib.Seq.{drop-cons}
 use Rattle.text.specs.Text.{seek, before, value_part}
 use Rattle.values.specs.Values.{value_of}
-use Rattle.text.specs.declared.Line.{Line}
-use Rattle.asks.specs.Asks.{kind_of, row_of, not_asked, asking_of, asking_at}
+use Rattle.asks.specs.Asks.{kind_of, row_of, not_asked, asking_by, asking_at}
 use Rattle.asks.specs.Extent.{line_end, line_ends}
 use Rattle.record_end.proofs.Behind.{whole}
 
@@ -33,9 +32,6 @@ module _ (text : List ℕ) (at e : ℕ) (he : e ≡ at + seek 10 10 (drop at tex
     kind_is : kind_of line ≡ kind_of (before 10 (drop at text))
     kind_is = ap kind_of (whole text at e he short)
 
-    value_is : value_of (row_of (kind_of line)) (value_part line) ≡ value_of (row_of (kind_of (before 10 (drop at text)))) (value_part (before 10 (drop at text)))
-    value_is = ap (λ (l : List ℕ). value_of (row_of (kind_of l)) (value_part l)) (whole text at e he short)
-
     pub other_key : kind_of line ≡ 0 → not_asked 1 at ≡ asking_at text at
     unfolding asking_at
     other_key k = simp (lt-ltb _ _ ends, eq-eqb _ _ (sym kind_is ∙ k))
@@ -44,20 +40,12 @@ module _ (text : List ℕ) (at e : ℕ) (he : e ≡ at + seek 10 10 (drop at tex
       named : kind_of (before 10 (drop at text)) ≡ 0 → ⊥
       named k = known (kind_is ∙ k)
 
-      pub bad_value : ((value_of (row_of (kind_of line)) (value_part line)).code ≡ 0 → ⊥) → not_asked 2 at ≡ asking_at text at
+      pub by_value : asking_by text (kind_of line) at e (value_of (row_of (kind_of line)) (value_part line)) ≡ asking_at text at
       unfolding asking_at
-      bad_value b =
-          let n : (value_of (row_of (kind_of (before 10 (drop at text)))) (value_part (before 10 (drop at text)))).code ≡ 0 → ⊥ = λ z. b (ap (λ (l : Line). l.code) value_is ∙ z) in
-          simp (lt-ltb _ _ ends, ne_eqb _ _ named, ne_eqb _ _ n)
-
-      pub good_value : (value_of (row_of (kind_of line)) (value_part line)).code ≡ 0
-          → asking_of text (kind_of line) (value_of (row_of (kind_of line)) (value_part line)).number e ≡ asking_at text at
-      unfolding asking_at
-      good_value g =
-          let n : (value_of (row_of (kind_of (before 10 (drop at text)))) (value_part (before 10 (drop at text)))).code ≡ 0 = ap (λ (l : Line). l.code) (sym value_is) ∙ g in
-          (ap (λ (l : List ℕ). asking_of text (kind_of l) (value_of (row_of (kind_of l)) (value_part l)).number e) (whole text at e he short)
-          ∙ ap (λ (j : ℕ). asking_of text (kind_of (before 10 (drop at text))) (value_of (row_of (kind_of (before 10 (drop at text)))) (value_part (before 10 (drop at text)))).number j) he)
-          ∙ sym (simp (lt-ltb _ _ ends, ne_eqb _ _ named, eq-eqb _ _ n))
+      by_value =
+          (ap (λ (l : List ℕ). asking_by text (kind_of l) at e (value_of (row_of (kind_of l)) (value_part l))) (whole text at e he short)
+          ∙ ap (λ (j : ℕ). asking_by text (kind_of (before 10 (drop at text))) at j (value_of (row_of (kind_of (before 10 (drop at text)))) (value_part (before 10 (drop at text))))) he)
+          ∙ sym (simp (lt-ltb _ _ ends, ne_eqb _ _ named))
 
 -- one byte more is looked at
 pub line_ends_on : (s : List ℕ) (i : ℕ) → i < length s → line_ends (drop i s) ≡ line_end (get_or s i 0) + line_ends (drop (i + 1) s)

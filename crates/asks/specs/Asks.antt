@@ -1,11 +1,13 @@
 -- The lines of a list of calls behind a day sheet, as `replay` reads them: `take=hour:unit:kWh`, `release=hour:unit:kWh`, `move=hour:from:to:kWh`,
 -- `void=hour`, `total=unit:item`, and `settle=` or `restate=` with nothing after the `=` and an hour record from the next byte on.
 -- 10 is LF; 01's refusals 4, 1 and 2 are those of a line that is no call.
-use Rattle.std.specs.Prelude.{ℕ, ◌+◌, cond, List, eqb, length, drop, get_or}
+use Rattle.std.specs.Prelude.{ℕ, ◌+◌, cond, List, eqb, length, drop, get_or, false, Result, Ok, Err}
 use Rattle.text.specs.declared.Row.{Row}
 use Rattle.text.specs.Text.{seek, before, has, value_part, key_is}
 use Rattle.text.specs.Rows.{word, limits}
 use Rattle.values.specs.Values.{value_of}
+use Rattle.text.specs.declared.Line.{Line}
+use Rattle.text.specs.declared.TextFault.{TextFault}
 use Rattle.ledger.specs.declared.Asked.{Asked}
 use Rattle.record_end.specs.End.{behind_record}
 use Rattle.asks.specs.declared.Asking.{Asking}
@@ -32,8 +34,8 @@ row_with n =
     record {
       key = word "";
       word = word "";
-      blank = 0;
-      order = 0;
+      blank = false;
+      order = false;
       parts = n;
       most = n;
       low = limits 0 0 0 0;
@@ -90,6 +92,11 @@ asking_of text kind number lf =
       next = next_of text kind (lf + 1);
     }
 
+-- what a line of a kind asks, by its value
+abbrev pub asking_by : List ℕ → (kind at lf : ℕ) → Result Line TextFault → Asking
+asking_by text kind at lf (Ok l) = asking_of text kind l.number lf
+asking_by text kind at lf (Err f) = not_asked 2 at
+
 -- what the line at a place asks: "4 for no LF, 1 for no `=` or another key, 2 for a malformed value"
 unfoldable pub asking_at : List ℕ → ℕ → Asking
 asking_at text at =
@@ -97,6 +104,5 @@ asking_at text at =
     let line = before 10 rest in
     cond (has 10 rest)
     (cond (eqb (kind_of line) 0) (not_asked 1 at)
-    (let l = value_of (row_of (kind_of line)) (value_part line) in
-    cond (eqb l.code 0) (asking_of text (kind_of line) l.number (at + seek 10 10 rest)) (not_asked 2 at)))
+    (asking_by text (kind_of line) at (at + seek 10 10 rest) (value_of (row_of (kind_of line)) (value_part line))))
     (not_asked 4 at)

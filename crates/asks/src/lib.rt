@@ -87,8 +87,8 @@ fn row_of(kind: u64) -> Row
     Row {
         key: *b"==========",
         word: *b"==========",
-        blank: 0,
-        order: 0,
+        blank: false,
+        order: false,
         parts: most as usize,
         most: most,
         low: [0, 0, 0, 0],
@@ -209,12 +209,10 @@ pub fn ask(text: &[u8], at: usize) -> Asking
     if kind == 0 {
         return nothing_asked(1, at);
     }
-    let l = values::read_value(text::value_of(line), row_of(kind));
-    if l.code != 0 {
-        return nothing_asked(2, at);
+    match values::read_value(text::value_of(line), row_of(kind)) {
+        Ok(read) => asking_of(text, kind, read.number, e),
+        Err(_) => nothing_asked(2, at),
     }
-    let number = l.number;
-    asking_of(text, kind, number, e)
 }
 
 fn is_line_end(x: u8) -> u64

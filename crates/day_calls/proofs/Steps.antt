@@ -1,7 +1,7 @@
 -- Each call of a day's text takes a line of six bytes at least, so the count of bytes in `day_calls` never runs out while a call comes, and the list is what
 -- its sentence says: call after call up to the text's end or the first line that is no call.
 -- Assumes nothing.
-use mathlib.Core.Path.{◌≡◌, refl, ap, sym, ◌∙◌}
+use mathlib.Core.Path.{◌≡◌, refl, ap, sym}
 use mathlib.Core.Bool.{Bool, true, false, cond, true≢false}
 use mathlib.Core.List.{List, [], ◌∷◌}
 use Prim.Native.Nat.{ℕ, zero, suc, ◌+◌, ◌≤◌, ◌<◌}
@@ -13,14 +13,15 @@ use lib.Seq.{length-take-le}
 use Rattle.text.specs.Text.{seek, before, has, value_part, word_is, key_is}
 use Rattle.text.specs.Rows.{word}
 use Rattle.values.specs.Values.{value_of}
+use Rattle.std.specs.Prelude.{Result, Ok, Err}
 use Rattle.text.specs.declared.Line.{Line}
+use Rattle.text.specs.declared.TextFault.{TextFault}
 use Rattle.lines.specs.Lines.{place_after}
-use Rattle.record_end.specs.End.{behind, behind_record}
+use Rattle.record_end.specs.End.{behind_record}
 use Rattle.record_end.proofs.Behind.{behind_line, behind_le}
-use Rattle.day_calls.specs.declared.Next.{Next}
-use Rattle.day_calls.specs.declared.Next.TheVariants.{Ends, Bad, Take, Settle}
+use Rattle.day_calls.specs.declared.Next.TheVariants.{Ends, Bad, Settle}
 use Rattle.day_calls.specs.declared.Step.{Step}
-use Rattle.day_calls.specs.DayCalls.{take_row, take_asked, settle_asked, take_of, next_at, step_by, step_at, DayCalls, no_calls, with_call, calls_by, calls_from, day_calls, line_bytes}
+use Rattle.day_calls.specs.DayCalls.{take_row, settle_asked, take_of, next_at, step_by, step_at, DayCalls, no_calls, with_call, calls_by, calls_from, day_calls, line_bytes}
 
 -- a word has as many bytes as stand before its '='
 word_length : (s w : List ℕ) → word_is s w ≡ true → length s ≡ seek 61 61 w
@@ -76,10 +77,10 @@ module _ (text : List ℕ) (at : ℕ) (lf : has 10 (drop at text) ≡ true) wher
 abbrev Goes : List ℕ → (at : ℕ) → Step → Type 0
 Goes text at s = s.more ≡ true → (at + line_bytes ≤ s.after) × (s.after ≤ length text)
 
-take_goes : (text : List ℕ) (at after : ℕ) (good : Bool) (hour unit kwh code : ℕ) → at + line_bytes ≤ after → after ≤ length text
-    → Goes text at (step_by text at (cond good (Take (take_asked hour unit kwh) after) (Bad code)))
-take_goes text at after true hour unit kwh code on within m = (on, within)
-take_goes text at after false hour unit kwh code on within m = absurd (true≢false (sym m))
+take_goes : (text : List ℕ) (at after : ℕ) (r : Result Line TextFault) → at + line_bytes ≤ after → after ≤ length text
+    → Goes text at (step_by text at (take_of r after))
+take_goes text at after (Ok l) on within m = (on, within)
+take_goes text at after (Err f) on within m = absurd (true≢false (sym m))
 
 pub step_goes : (text : List ℕ) (at : ℕ) → Goes text at (step_at text at)
 unfolding next_at
@@ -88,7 +89,7 @@ step_goes text at = by (ltb at (length text)) refl (has 10 (drop at text)) refl 
     line : List ℕ
     line = before 10 (drop at text)
 
-    read : Line
+    read : Result Line TextFault
     read = value_of take_row (value_part line)
 
     by : (t : Bool) → ltb at (length text) ≡ t → (lf : Bool) → has 10 (drop at text) ≡ lf → (taken : Bool) → key_is line (word "take") ≡ taken
@@ -97,7 +98,7 @@ step_goes text at = by (ltb at (length text)) refl (has 10 (drop at text)) refl 
     by false e lf f taken g hour h m = absurd (true≢false (sym m))
     by true e false f taken g hour h m = absurd (true≢false (sym m))
     by true e true f true g hour h m =
-        take_goes text at (place_after text at) (eqb read.code 0) _ _ _ _ (line_size text at f (word "take") take_four g) (line_inside text at f) m
+        take_goes text at (place_after text at) read (line_size text at f (word "take") take_four g) (line_inside text at f) m
     by true e true f false g true h m =
         let size = line_size text at f (word "hour") hour_four h in
         let behind = record_size text at f in

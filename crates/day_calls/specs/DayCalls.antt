@@ -1,10 +1,12 @@
 -- A day's text behind its sheet, as a list of calls with an ending (01, Program and marked figures).
-use Rattle.std.specs.Prelude.{◌≡◌, ℕ, zero, suc, ◌*◌, ◌<◌, true, false, cond, List, [], ◌∷◌, eqb, ltb, length, drop, get_or}
+use Rattle.std.specs.Prelude.{◌≡◌, ℕ, zero, suc, ◌*◌, ◌<◌, true, false, cond, List, [], ◌∷◌, ltb, length, drop, get_or, Result, Ok, Err}
 use Rattle.std.proofs.Math.Seq.{paste}
 use Rattle.text.specs.Text.{before, has, value_part, key_is}
 use Rattle.text.specs.Rows.{word, limits}
 use Rattle.values.specs.Values.{value_of}
 use Rattle.text.specs.declared.Row.{Row}
+use Rattle.text.specs.Text.{fault_number}
+use Rattle.text.specs.declared.TextFault.{TextFault}
 use Rattle.text.specs.declared.Line.{Line}
 use Rattle.lines.specs.Lines.{place_after}
 use Rattle.record_end.specs.End.{behind_record}
@@ -25,8 +27,8 @@ take_row =
     record {
       key = word "take";
       word = word "";
-      blank = 0;
-      order = 0;
+      blank = false;
+      order = false;
       parts = 3;
       most = 3;
       low = limits 0 0 0 0;
@@ -41,9 +43,9 @@ abbrev pub settle_asked : List ℕ → (at : ℕ) → Asked
 settle_asked text at = record { kind = 4; hour = 0; unit = 0; to = 0; kwh = 0; begin = 0; end = length text; start = at }
 
 -- the take of a line, with the place after it
-abbrev pub take_of : Line → (after : ℕ) → Next
-take_of l after =
-    cond (eqb l.code 0) (Take (take_asked (get_or l.number 0 0) (get_or l.number 1 0) (get_or l.number 2 0)) after) (Bad l.code)
+abbrev pub take_of : Result Line TextFault → (after : ℕ) → Next
+take_of (Ok l) after = Take (take_asked (get_or l.number 0 0) (get_or l.number 1 0) (get_or l.number 2 0)) after
+take_of (Err f) after = Bad (fault_number f)
 
 -- the call of a line by its key; "a line of another key" is 1
 abbrev pub line_call : List ℕ → (at : ℕ) → (line : List ℕ) → Next

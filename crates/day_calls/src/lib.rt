@@ -6,7 +6,7 @@ ghost use Rattle.ledger.specs.Requests.{call_numbers, none_asked};
 ghost use Rattle.day_calls.specs.DayCalls.{take_row, take_of, settle_asked, next_at, end_step, call_step, step_at, line_bytes, stored_at, Lists};
 
 use ledger::Asked;
-use text::{Line, Row};
+use text::{Line, Row, TextFault};
 
 // What comes at a place of the text: its end; a line that is refused with a number; a take, with the place after its line; the settle of a record.
 #[derive(Clone, Copy)]
@@ -40,8 +40,8 @@ fn take_row() -> Row
     Row {
         key: *b"take======",
         word: *b"==========",
-        blank: 0,
-        order: 0,
+        blank: false,
+        order: false,
         parts: 3,
         most: 3,
         low: [0, 0, 0, 0],
@@ -65,26 +65,25 @@ fn no_call() -> Asked
 }
 
 // The take of a line's numbers.
-fn take_of(line: Line, after: usize) -> Next
+fn take_of(line: Result<Line, TextFault>, after: usize) -> Next
     ensures { result ≡ take_of line after }
 {
-    if line.code == 0 {
-        let number = line.number;
-        return Next::Take(
+    match line {
+        Ok(line) => Next::Take(
             Asked {
                 kind: 1,
-                hour: number[0],
-                unit: number[1],
+                hour: line.number[0],
+                unit: line.number[1],
                 to: 0,
-                kwh: number[2],
+                kwh: line.number[2],
                 begin: 0,
                 end: 0,
                 start: 0,
             },
             after,
-        );
+        ),
+        Err(fault) => Next::Bad(fault.number()),
     }
-    Next::Bad(line.code)
 }
 
 // The settle of the record that begins at a place.
@@ -116,8 +115,7 @@ fn next_at(text: &[u8], at: usize) -> Next
     }
     let line = &text[at..e];
     if text::key_is(line, *b"take======") {
-        let l = values::read_value(text::value_of(line), take_row());
-        return take_of(l, e + 1);
+        return take_of(values::read_value(text::value_of(line), take_row()), e + 1);
     }
     if text::key_is(line, *b"hour======") {
         return Next::Settle(settle_at(text, at));

@@ -19,9 +19,9 @@ fn say_number<W: Write>(out: &mut W, n: u64) -> io::Result<()> {
 
 fn say_refusal<W: Write>(out: &mut W, refusal: TextRefusal) -> io::Result<()> {
     say(out, b" refused ")?;
-    say_number(out, lines::text_number(refusal))?;
+    say_number(out, refusal.number())?;
     say(out, b" ")?;
-    say_number(out, lines::text_line(refusal))?;
+    say_number(out, refusal.line)?;
     say(out, b"\n")
 }
 

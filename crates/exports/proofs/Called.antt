@@ -7,7 +7,7 @@ use lib.IntN.{ℤ}
 use Rattle.lines.specs.declared.TextRefusal.{TextRefusal}
 use Rattle.lines.specs.declared.ReadAnswer.{ReadAnswer}
 use Rattle.lines.specs.declared.ReadAnswer.TheVariants.{Read, Refused}
-use Rattle.lines.specs.Refusals.{text_number, text_line}
+use Rattle.lines.specs.Refusals.{text_number}
 use Rattle.sheet_text.specs.declared.SheetRead.{SheetRead}
 use Rattle.sheet_text.specs.Day.{read_sheet}
 use Rattle.exports.specs.Exports.{most_places, held_numbers, amount_numbers, Owned, owned_of, Left, refused_sheet, carried_out, left_by, called_of}
@@ -20,7 +20,7 @@ module _ (sheet : List ℕ) (places : ℕ) (calls text answers held : List ℕ) 
       ∙ ap (λ (z : SheetRead). left_by z.answer z.sheet (min places most_places) calls text answers held amounts postings) is
 
   -- the text is refused
-  pub called_refused : (r : TextRefusal) (n m : ℕ) → read.answer ≡ Refused r → n ≡ text_number r → m ≡ text_line r → refused_sheet n m answers held amounts postings ≡ called_of sheet places calls text answers held amounts postings
+  pub called_refused : (r : TextRefusal) (n m : ℕ) → read.answer ≡ Refused r → n ≡ text_number r → m ≡ r.line → refused_sheet n m answers held amounts postings ≡ called_of sheet places calls text answers held amounts postings
   called_refused r n m e f g =
       ap (λ (z : ℕ). refused_sheet z m answers held amounts postings) f ∙ (ap (λ (z : ℕ). refused_sheet (text_number r) z answers held amounts postings) g ∙ called_is (Refused r) e)
 

@@ -3,7 +3,7 @@
 use Rattle.std.specs.Prelude.{cond, List, ℕ, zero, suc, ◌+◌, ◌*◌, ◌/◌, min, ltb, ℤ, pos, length, get_or, set, replicate}
 use Rattle.lines.specs.declared.ReadAnswer.{ReadAnswer}
 use Rattle.lines.specs.declared.ReadAnswer.TheVariants.{Read, Refused}
-use Rattle.lines.specs.Refusals.{text_number, text_line}
+use Rattle.lines.specs.Refusals.{text_number}
 use Rattle.sheet.specs.declared.Sheet.{Sheet}
 use Rattle.sheet_text.specs.Day.{read_sheet}
 use Rattle.settlement.specs.declared.Amounts.{Amounts}
@@ -116,7 +116,7 @@ carried_out o held amounts =
 
 abbrev pub left_by : ReadAnswer → Sheet → (places : ℕ) → (calls text answers held : List ℕ) → (amounts postings : List ℤ) → Left
 left_by (Refused r) sheet places calls text answers held amounts postings =
-    refused_sheet (text_number r) (text_line r) answers held amounts postings
+    refused_sheet (text_number r) r.line answers held amounts postings
 left_by (Read place) sheet places calls text answers held amounts postings =
     carried_out (owned_of sheet places calls text answers postings) held amounts
 

@@ -231,9 +231,9 @@ pub extern "C" fn gozalvek_calls(
     let day_sheet = read.sheet;
     match answer {
         ReadAnswer::Refused(refusal) => {
-            *line = lines::text_line(refusal);
+            *line = refusal.line;
             *count = 0;
-            lines::text_number(refusal)
+            refusal.number()
         }
         ReadAnswer::Read(_) => {
             let n = length_of(places);

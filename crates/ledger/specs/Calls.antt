@@ -7,7 +7,7 @@ use Rattle.units.specs.Units.{is_member, unit_count}
 use Rattle.lines.specs.declared.ReadAnswer.{ReadAnswer}
 use Rattle.lines.specs.declared.ReadAnswer.TheVariants.{Read as placeRead, Refused as text_refused}
 use Rattle.sheet.specs.declared.Sheet.{Sheet}
-use Rattle.lines.specs.declared.TextRefusal.TheVariants.{TextEnds}
+use Rattle.lines.specs.Refusals.{no_start}
 use Rattle.sheet.specs.Ranges.{sheet_holds, monthly_of}
 use Rattle.record.specs.declared.Record.{Record}
 use Rattle.record.specs.Empty.{no_record}
@@ -297,7 +297,7 @@ carried_out s st q =
 
 -- the requests of the calls; one without a text has a reading that is refused
 abbrev pub unread : ReadAnswer
-unread = text_refused (TextEnds 0)
+unread = text_refused no_start
 
 abbrev pub plain_request : (kind hour unit to kwh : ℕ) → Request
 plain_request kind hour unit to kwh =

@@ -5,7 +5,7 @@ use Rattle.finite.specs.Finite.{every, tabulate}
 use Rattle.energy.specs.declared.HubKwh.{HubKwh}
 use Rattle.units.specs.Units.{is_member, member_at, unit_count}
 use Rattle.offer.specs.Offer.{last_quantity}
-use Rattle.lines.specs.Refusals.{text_number, text_line}
+use Rattle.lines.specs.Refusals.{text_number}
 use Rattle.lines.specs.declared.ReadAnswer.{ReadAnswer}
 use Rattle.lines.specs.declared.ReadAnswer.TheVariants.{Read, Refused}
 use Rattle.sheet.specs.declared.Sheet.{Sheet}
@@ -151,7 +151,7 @@ no_room sheet room l = ltb (min room 100000 - length l.postings) (5 * unit_count
 -- 1 to 4, by the reader
 abbrev pub text_condition : ReadAnswer → List Condition
 text_condition (Read place) = []
-text_condition (Refused r) = record { number = text_number r; line = text_line r; holds = true } ∷ []
+text_condition (Refused r) = record { number = text_number r; line = r.line; holds = true } ∷ []
 
 -- the rows of each call, in the table's order
 abbrev pub take_conditions : Sheet → Ledger → ℕ → ℕ → ℕ → List Condition

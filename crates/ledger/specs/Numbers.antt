@@ -1,6 +1,6 @@
 -- Document 01's numbers: of each refusal, and of what a call answers.
 use Rattle.std.specs.Prelude.{ℕ, Ok, Err}
-use Rattle.lines.specs.Refusals.{text_number, text_line}
+use Rattle.lines.specs.Refusals.{text_number}
 use Rattle.ledger.specs.declared.Refusal.{Refusal}
 use Rattle.ledger.specs.declared.Refusal.TheVariants.{Text, SheetRange, HourRange, UnitUnknown, BookRange, HourSettled, NoAmount, OverOffer, HeldLess, SameUnit, Minutes, Readings, Proportions, HourStands, HourOpen, NoPlaces}
 use Rattle.ledger.specs.Answers.{Answer}
@@ -28,7 +28,7 @@ refusal_number NoPlaces = 42
 
 -- "for 1 to 4 the line"
 abbrev pub refusal_line : Refusal → ℕ
-refusal_line (Text t) = text_line t
+refusal_line (Text t) = t.line
 refusal_line SheetRange = 0
 refusal_line HourRange = 0
 refusal_line UnitUnknown = 0

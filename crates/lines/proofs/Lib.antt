@@ -1,5 +1,5 @@
-pub mod Storage
 pub mod Reading
-pub mod Shown
 pub mod Due
 pub mod Numbers
+pub mod Cursors
+pub mod Shown

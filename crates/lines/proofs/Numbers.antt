@@ -1,5 +1,6 @@
 -- The number of a line that keeps to a row of one number lies in the row's range.
 -- Assumes nothing.
+use mathlib.Core.Path.{refl}
 use mathlib.Core.List.{List}
 use Prim.Native.Nat.{ℕ, ◌≤◌, ◌<◌}
 use native.Mathlib.Omega.{arith}
@@ -14,7 +15,7 @@ module _ (key : List ℕ) (low high : ℕ) (l : Line) where
   unfolding part_of
   number_in k =
       let f : Fits (number_row key low high) l = keeps_open (number_row key low high) l k (λ e. omega arith) (omega arith) in
-      let w = f.within 0 (f.some (λ e. omega arith)) in
+      let w = f.within 0 (f.some refl) in
       (w.least, w.most)
 
   pub blank_in : Keeps (blank_row key low high) l → 0 < l.count → (low ≤ number_of l) × (number_of l ≤ high)

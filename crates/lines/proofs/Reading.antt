@@ -4,25 +4,37 @@
 use mathlib.Core.Path.{◌≡◌, refl, ap, sym, ◌∙◌}
 use mathlib.Core.Bool.{Bool, true, false, cond, ◌||◌}
 use mathlib.Core.List.{List, [], ◌∷◌, ◌++◌}
-use Prim.Native.Nat.{ℕ, ◌+◌, ◌-◌, ◌≤◌, ◌<◌}
+use Prim.Native.Nat.{ℕ, suc, ◌+◌, ◌-◌, ◌≤◌, ◌<◌}
 use native.Mathlib.Omega.{arith}
-use borrow.Author.Tests.{le-ltb, lt-ltb, ltb-false, eq-eqb, ne_eqb, eqb-true, eqb-false}
-use lib.Dec.{eqb, ltb}
-use lib.ListN.{length, drop, take, length-drop}
-use Rattle.values.proofs.Codes.{code_of, value_code}
+use borrow.Author.Tests.{le-ltb, lt-ltb, ltb-false}
+use lib.Dec.{ltb}
+use lib.ListN.{length, drop, take, set, length-drop, length-append, length-set, get_or-append}
+use lib.Seq.{get_or_at, get_or-set_same, get_or-set_other}
+use Rattle.std.specs.Prelude.{Result, Ok, Err}
+use Rattle.finite.proofs.Sums.{extend}
 use Rattle.values.proofs.Fits.{Fits, value_fits}
-use Rattle.lines.specs.Refusals.{text_number, text_refusal, bad_start}
-use Rattle.lines.specs.declared.TextRefusal.TheVariants.{NotDue, BadValue, OfferOrder, TextEnds}
+use Rattle.lines.specs.Refusals.{bad_start, no_start}
+use Rattle.lines.specs.declared.TextRefusal.{TextRefusal}
 use Rattle.text.specs.Text.{seek, before, has, value_part, key_is}
 use Rattle.text.specs.Rows.{no_line}
 use Rattle.values.specs.Values.{value_of}
 use Rattle.text.specs.declared.Row.{Row}
 use Rattle.text.specs.declared.Line.{Line}
-use Rattle.lines.specs.Lines.{line_by, line_at, place_after, Reading, read_line}
+use Rattle.text.specs.declared.TextFault.{TextFault}
+use Rattle.text.specs.declared.TextFault.TheVariants.{NotDue, TextEnds}
+use Rattle.lines.specs.Lines.{line_by, line_at, line_of}
+use Rattle.lines.specs.Cells.{line_in, Kept}
+
+-- a refusal is no line, and a line is the one that it is
+pub not_ok : {A E : Type 0} (f : E) (x : A) → ◌≡◌ {A = Result A E} (Err f) (Ok x) → ⊥
+not_ok f x e = cc
+
+pub same_ok : {A E : Type 0} (x y : A) → ◌≡◌ {A = Result A E} (Ok x) (Ok y) → x ≡ y
+same_ok x y e = cc
 
 -- the line at a place, whose LF is looked for from there and found at e
 module _ (text : List ℕ) (at : ℕ) (row : Row) (e : ℕ) (he : e ≡ at + seek 10 10 (drop at text)) where
-  pub unended : length text ≤ e → no_line 4 ≡ line_at text at row
+  pub unended : length text ≤ e → Err TextEnds ≡ line_at text at row
   unfolding line_at
   unended h =
       let n : length (drop at text) ≤ seek 10 10 (drop at text) = omega (arith, length-drop at text) in
@@ -30,30 +42,30 @@ module _ (text : List ℕ) (at : ℕ) (row : Row) (e : ℕ) (he : e ≡ at + see
 
   -- it is cut out of the text there, and goes by whether its key is the one due
   pub by_key : e < length text → (due : Bool) → key_is (take (e - at) (drop at text)) row.key ≡ due
-      → cond due (value_of row (value_part (take (e - at) (drop at text)))) (no_line 1) ≡ line_at text at row
+      → cond due (value_of row (value_part (take (e - at) (drop at text)))) (Err NotDue) ≡ line_at text at row
   unfolding line_at
   by_key h due k =
       let short : seek 10 10 (drop at text) < length (drop at text) = omega (arith, length-drop at text) in
       let n : e - at ≡ seek 10 10 (drop at text) = omega arith in
-      sym (ap (λ (b : Bool). cond b (value_of row (value_part (take (e - at) (drop at text)))) (no_line 1)) k)
+      sym (ap (λ (b : Bool). cond b (value_of row (value_part (take (e - at) (drop at text)))) (Err NotDue)) k)
       ∙ simp (lt-ltb _ _ short) (ap (λ (k : ℕ). line_by (take k (drop at text)) row) n)
 
--- the next line: nothing where the reading is refused; else the line is taken in, or the reading is refused
-module _ (text : List ℕ) (row : Row) (s : Reading) where
-  pub refused_stays : (s.refusal ≡ 0 → ⊥) → read_line text row s ≡ s
-  unfolding read_line
-  refused_stays n = simp (ne_eqb _ _ n)
+-- a line that is read is kept where there is room for it
+module _ (kept : List Line) (lines : List Line) (l : Line) (holds : Kept kept lines) where
+  pub kept_on : length kept ≤ length lines → Kept kept (lines ++ (l ∷ []))
+  kept_on full k h room = get_or-append lines (l ∷ []) no_line k (omega arith) ∙ holds k (omega arith) room
 
-  module _ (good : s.refusal ≡ 0) where
-    pub line_refused : ((line_at text s.at row).code ≡ 0 → ⊥)
-        → read_line text row s ≡ record { refusal = (line_at text s.at row).code; at = s.at; lines = s.lines }
-    unfolding read_line
-    line_refused n = simp (eq-eqb _ _ good, ne_eqb _ _ n)
+  pub kept_next : length lines < length kept → Kept (set kept (length lines) l) (lines ++ (l ∷ []))
+  kept_next free k h room = each k (omega (arith, length-append lines (l ∷ []))) (omega (arith, length-set kept (length lines) l))
+    where
+      none : Line
+      none = record { count = 0; number = [] }
 
-    pub line_taken : (line_at text s.at row).code ≡ 0
-        → read_line text row s ≡ record { refusal = 0; at = place_after text s.at; lines = s.lines ++ (line_at text s.at row ∷ []) }
-    unfolding read_line
-    line_taken e = simp (eq-eqb _ _ good, eq-eqb _ _ e)
+      each : (k : ℕ) → k < suc (length lines) → k < length kept → line_of (lines ++ (l ∷ [])) k ≡ line_in (set kept (length lines) l) k
+      each =
+          extend (λ k. k < length kept → line_of (lines ++ (l ∷ [])) k ≡ line_in (set kept (length lines) l) k) (length lines)
+          (λ k h room. get_or-append lines (l ∷ []) no_line k h ∙ (holds k h room ∙ sym (get_or-set_other kept (length lines) k l none (λ e. omega arith))))
+          (λ room. get_or_at lines l [] no_line (length lines) refl ∙ sym (get_or-set_same kept (length lines) l none free))
 
 -- a text and a start that are not refused
 pub start_within : (text : List ℕ) (start : ℕ) → bad_start text start ≡ false → (length text ≤ 65536) × (start ≤ length text)
@@ -63,29 +75,14 @@ start_within text start = by (ltb 65536 (length text)) refl (ltb (length text) s
     by true e b f h = absurd (let z : ◌≡◌ {A = ℕ} 0 1 = cc in omega arith)
     by false e b f h = (ltb-false _ _ e, ltb-false _ _ (f ∙ h))
 
--- a refusal's number is that of its case
-pub refusal_number_lem : (number line : ℕ) → 1 ≤ number → number ≤ 4 → text_number (text_refusal number line) ≡ number
-refusal_number_lem number line a b = by (eqb number 1) refl (eqb number 2) refl (eqb number 3) refl
-  where
-    by : (t : Bool) → eqb number 1 ≡ t → (u : Bool) → eqb number 2 ≡ u → (v : Bool) → eqb number 3 ≡ v
-        → text_number (cond t (NotDue line) (cond u (BadValue line) (cond v (OfferOrder line) (TextEnds line)))) ≡ number
-    by true e u f v g = sym (eqb-true _ _ e)
-    by false e true f v g = sym (eqb-true _ _ f)
-    by false e false f true g = sym (eqb-true _ _ g)
-    by false e false f false g =
-        let p : number ≡ 1 → ⊥ = eqb-false _ _ e in
-        let q : number ≡ 2 → ⊥ = eqb-false _ _ f in
-        let r : number ≡ 3 → ⊥ = eqb-false _ _ g in
-        omega arith
+-- where a reading starts, or not
+pub started : (t : Bool) (start at : ℕ) → cond t (Err no_start) (Ok start) ≡ Ok at → (t ≡ false) × (at ≡ start)
+started true start at e = absurd (not_ok _ _ e)
+started false start at e = (refl, sym (same_ok _ _ e))
 
-pub line_code : (text : List ℕ) (at : ℕ) (row : Row) → (line_at text at row).code ≤ 4
-unfolding line_at
-line_code text at row =
-    let rest = drop at text in
-    let v = value_of row (value_part (before 10 rest)) in
-    code_of (has 10 rest) 4 _ (no_line 4)
-    (code_of (key_is (before 10 rest) row.key) 4 v (no_line 1) (omega (arith, value_code row (value_part (before 10 rest)))) (omega arith))
-    (omega arith)
+pub not_started : (t : Bool) (start : ℕ) (r : TextRefusal) → cond t (Err no_start) (Ok start) ≡ Err r → (t ≡ true) × (r ≡ no_start)
+not_started true start r e = (refl, cc)
+not_started false start r e = absurd (not_ok _ _ (sym e))
 
 -- the line keeps to its row, where the row has numbers
 pub Keeps : Row → Line → Type 0
@@ -95,14 +92,14 @@ pub keeps_open : (row : Row) (l : Line) → Keeps row l → (row.parts ≡ 0 →
 unfolding Keeps
 keeps_open row l k = k
 
-pub line_keeps : (text : List ℕ) (at : ℕ) (row : Row) → (line_at text at row).code ≡ 0 → Keeps row (line_at text at row)
+pub line_keeps : (text : List ℕ) (at : ℕ) (row : Row) (l : Line) → line_at text at row ≡ Ok l → Keeps row l
 unfolding line_at Keeps
-line_keeps text at row = by (has 10 (drop at text)) (key_is (before 10 (drop at text)) row.key)
+line_keeps text at row l = by (has 10 (drop at text)) (key_is (before 10 (drop at text)) row.key)
   where
-    v : Line
+    v : Result Line TextFault
     v = value_of row (value_part (before 10 (drop at text)))
 
-    by : (t u : Bool) → (cond t (cond u v (no_line 1)) (no_line 4)).code ≡ 0 → (row.parts ≡ 0 → ⊥) → row.most ≤ 24 → Fits row (cond t (cond u v (no_line 1)) (no_line 4))
-    by true true e p m = value_fits row (value_part (before 10 (drop at text))) p m e
-    by true false e p m = absurd (let z : ◌≡◌ {A = ℕ} 1 0 = e in omega arith)
-    by false u e p m = absurd (let z : ◌≡◌ {A = ℕ} 4 0 = e in omega arith)
+    by : (t u : Bool) → cond t (cond u v (Err NotDue)) (Err TextEnds) ≡ Ok l → (row.parts ≡ 0 → ⊥) → row.most ≤ 24 → Fits row l
+    by true true e p m = value_fits row (value_part (before 10 (drop at text))) p m l e
+    by true false e p m = absurd (not_ok _ _ e)
+    by false u e p m = absurd (not_ok _ _ e)

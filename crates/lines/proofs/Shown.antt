@@ -1,47 +1,51 @@
--- A cursor and its cells go on showing how far the text is read, whichever way the next line turns out.
+-- A loop over the lines due: after i of them the cursor and what is kept show a reading, which one line more carries on or refuses.
 -- Assumes nothing.
 use mathlib.Core.Path.{◌≡◌, refl, ap, sym, ◌∙◌}
-use mathlib.Core.List.{List, [], ◌∷◌, ◌++◌}
-use Prim.Native.Nat.{ℕ, ◌+◌}
-use lib.ListN.{length, length-append}
+use mathlib.Core.List.{List, []}
+use native.Mathlib.Nat.{not-suc-le-zero}
+use Prim.Native.Nat.{ℕ, ◌+◌, ◌-◌, ◌<◌}
+use native.Mathlib.Omega.{arith}
+use Rattle.std.specs.Prelude.{Result, Ok, Err}
 use Rattle.text.specs.declared.Row.{Row}
 use Rattle.text.specs.declared.Line.{Line}
 use Rattle.lines.specs.declared.Cursor.{Cursor}
-use Rattle.lines.specs.Lines.{line_at, place_after, Reading, read_line}
-use Rattle.lines.specs.Cells.{Placed, Kept, Shows}
-use Rattle.lines.proofs.Reading.{refused_stays, line_refused, line_taken}
-use Rattle.lines.proofs.Storage.{kept_same, kept_next}
+use Rattle.lines.specs.declared.TextRefusal.{TextRefusal}
+use Rattle.lines.specs.Lines.{Reading, read_line, read_by}
+use Rattle.lines.specs.Cells.{Kept, cursor_of, cursors}
+use Rattle.lines.proofs.Due.{by_next, by_refused}
+use Rattle.lines.proofs.Cursors.{cursors_ok, cursors_err}
 
-module _ (text : List ℕ) (row : Row) (cells : List ℕ) (c : Cursor) (s : Reading) (shown : Shows cells c s) where
-  pub shown_refused : (c.refusal ≡ 0 → ⊥) → Shows cells c (read_line text row s)
-  shown_refused n = rw (refused_stays text row s (λ e. n (shown.refusal_is ∙ e))) shown
+-- where nothing is read yet, whatever is kept holds it
+pub none_kept : (kept : List Line) → Kept kept []
+none_kept kept k h room = absurd (not-suc-le-zero h)
 
-  module _ (good : c.refusal ≡ 0) where
-    here : line_at text c.at row ≡ line_at text s.at row
-    here = ap (λ (n : ℕ). line_at text n row) shown.at_is
+pub record Shown (text : List ℕ) (due : List Line → Row) (i : ℕ) (s : Reading) (d : Cursor) (kept : List Line) : Type 0 where
+  pub reading : Reading
+  pub read : read_by text due i s ≡ Ok reading
+  pub cursor : d ≡ cursor_of reading
+  pub holds : Kept kept reading.lines
 
-    -- the line is refused, and the cells still hold the lines before it
-    pub shown_bad : (new : List ℕ) (code : ℕ) → Kept new s.lines → code ≡ (line_at text c.at row).code → (code ≡ 0 → ⊥)
-        → Shows new (record { refusal = code; at = c.at; lines = c.lines }) (read_line text row s)
-    shown_bad new code kept is n =
-        let there : code ≡ (line_at text s.at row).code = is ∙ ap (λ (l : Line). l.code) here in
-        rw (line_refused text row s (sym shown.refusal_is ∙ good) (λ e. n (there ∙ e)))
-        (record { refusal_is = there; at_is = shown.at_is; lines_is = shown.lines_is; kept = kept })
+module _ (text : List ℕ) (due : List Line → Row) (s : Reading) where
+  pub shown_first : (d : Cursor) (kept : List Line) → d ≡ cursor_of s → Kept kept s.lines → Shown text due 0 s d kept
+  unfolding read_by
+  shown_first d kept e k = record { reading = s; read = refl; cursor = e; holds = k }
 
-    module _ (new : List ℕ) (code : ℕ) (p : Placed cells new c.lines code (line_at text c.at row)) (same : length new ≡ length cells) where
-      pub shown_placed_bad : (code ≡ 0 → ⊥) → Shows new (record { refusal = code; at = c.at; lines = c.lines }) (read_line text row s)
-      shown_placed_bad =
-          shown_bad new code (kept_same cells new c.lines code (line_at text c.at row) p same s.lines shown.lines_is shown.kept) p.code_is
+  module _ (i : ℕ) (d : Cursor) (kept : List Line) (shown : Shown text due i s d kept) (row : Row) (is : row ≡ due shown.reading.lines)
+      (result : Result Cursor TextRefusal) (cursor : (s : Reading) → d ≡ cursor_of s → result ≡ cursors (read_line text row s)) where
+    told : result ≡ cursors (read_by text due (i + 1) s)
+    told =
+        cursor shown.reading shown.cursor
+        ∙ (ap (λ (x : Row). cursors (read_line text x shown.reading)) is ∙ sym (ap cursors (by_next text due i s shown.reading shown.read)))
 
-      pub shown_good : code ≡ 0 → Shows new (record { refusal = 0; at = place_after text c.at; lines = c.lines + 1 }) (read_line text row s)
-      shown_good e =
-          let line : (line_at text c.at row).code ≡ 0 = sym p.code_is ∙ e in
-          let kept : Kept new (s.lines ++ (line_at text c.at row ∷ [])) =
-          kept_next cells new c.lines code (line_at text c.at row) p same s.lines shown.lines_is shown.kept line in
-          rw (line_taken text row s (sym shown.refusal_is ∙ good) (ap (λ (l : Line). l.code) (sym here) ∙ line))
-          (record {
-            refusal_is = refl;
-            at_is = ap (place_after text) shown.at_is;
-            lines_is = ap (λ (n : ℕ). n + 1) shown.lines_is ∙ sym (length-append s.lines (line_at text s.at row ∷ []));
-            kept = rw here at kept;
-          })
+    pub shown_next : (new : List Line)
+        → ((s t : Reading) → d ≡ cursor_of s → Kept kept s.lines → read_line text row s ≡ Ok t → Kept new t.lines)
+        → (e : Cursor) → result ≡ Ok e → Shown text due (i + 1) s e new
+    shown_next new holds e ok =
+        let x = cursors_ok (read_by text due (i + 1) s) e (sym ok ∙ told) in
+        let next : read_line text row shown.reading ≡ Ok x.reading =
+        ap (λ (r : Row). read_line text r shown.reading) is ∙ (sym (by_next text due i s shown.reading shown.read) ∙ x.read) in
+        record { reading = x.reading; read = x.read; cursor = x.cursor; holds = holds shown.reading x.reading shown.cursor shown.holds next }
+
+    pub shown_refused : (r : TextRefusal) → result ≡ Err r → (n : ℕ) → i < n → read_by text due n s ≡ Err r
+    shown_refused r bad n h =
+        by_refused text due (i + 1) (n - (i + 1)) n s r (omega arith) (cursors_err (read_by text due (i + 1) s) r (sym bad ∙ told))

@@ -16,9 +16,15 @@ use Rattle.text.specs.Text.{seek, before, has, value_part, word_is, key_is}
 use Rattle.text.specs.Rows.{word, no_line}
 use Rattle.values.specs.Values.{value_of}
 use Rattle.text.specs.declared.Row.{Row}
-use Rattle.lines.specs.Lines.{Reading, begin, line_at, place_after, read_line, read_by}
-use Rattle.lines.proofs.Reading.{refused_stays, line_refused, line_taken}
-use Rattle.lines.proofs.Due.{onward, by_next}
+use Rattle.lines.specs.Lines.{Reading, begin, line_at, place_after, read_line, further, read_by}
+use Rattle.std.specs.Prelude.{Result, Ok, Err}
+use Rattle.text.specs.declared.Line.{Line}
+use Rattle.text.specs.declared.TextFault.{TextFault}
+use Rattle.text.specs.declared.TextFault.TheVariants.{NotDue, BadValue, TextEnds}
+use Rattle.lines.specs.declared.TextRefusal.{TextRefusal}
+use Rattle.lines.proofs.Reading.{not_ok, same_ok}
+use Rattle.lines.proofs.Due.{onward, by_next, by_refused}
+use Rattle.lines.proofs.Due as step
 use Rattle.lines.specs.declared.ReadAnswer.TheVariants.{Read}
 use Rattle.record_lines.specs.Rows.{head_rows, spans_row, unit_rows, end_row, head_lines, unit_lines, row_at, due_row, read_lines}
 use Rattle.record_text.specs.Hour.{read_record}
@@ -78,51 +84,25 @@ row_apart n k l = by (ltb k head_lines) refl
         (every_at unit_lines (λ i. apart (get_or unit_rows i end_row).key (word "end")) units_apart ((k - head_lines) % unit_lines) (omega arith))
 
 -- a line that was taken in: it is ended, it has the key due, and its value is good
-record Taken (text : List ℕ) (row : Row) (s : Reading) : Type 0 where
-  was_good : s.refusal ≡ 0
+record Taken (text : List ℕ) (row : Row) (s t : Reading) : Type 0 where
   lf : seek 10 10 (drop s.at text) < length (drop s.at text)
   key_is_lem : key_is (before 10 (drop s.at text)) row.key ≡ true
-  value_good : (value_of row (value_part (before 10 (drop s.at text)))).code ≡ 0
-  next : (read_line text row s).at ≡ place_after text s.at
+  line : Line
+  value_good : value_of row (value_part (before 10 (drop s.at text))) ≡ Ok line
+  next : t.at ≡ place_after text s.at
 
-taken : (text : List ℕ) (row : Row) (s : Reading) → (read_line text row s).refusal ≡ 0 → Taken text row s
+taken : (text : List ℕ) (row : Row) (s t : Reading) → read_line text row s ≡ Ok t → Taken text row s t
 unfolding line_at
-taken text row s good = by (eqb s.refusal 0) refl
+taken text row s t good = by (has 10 (drop s.at text)) refl (key_is (before 10 (drop s.at text)) row.key) refl k.read
   where
-    rest : List ℕ
-    rest = drop s.at text
+    k : step.Taken text row s t
+    k = step.taken text row s t good
 
-    line : List ℕ
-    line = before 10 rest
-
-    coded : s.refusal ≡ 0 → (t : Bool) → eqb (line_at text s.at row).code 0 ≡ t → (line_at text s.at row).code ≡ 0
-    coded g true e = eqb-true _ _ e
-    coded g false e = sym (ap (λ (x : Reading). x.refusal) (line_refused text row s g (eqb-false _ _ e))) ∙ good
-
-    keyed : s.refusal ≡ 0 → has 10 rest ≡ true → (line_at text s.at row).code ≡ 0 → (k : Bool) → key_is line row.key ≡ k
-        → (cond k (value_of row (value_part line)) (no_line 1)).code ≡ 0 → Taken text row s
-    keyed g h z true e c =
-        record {
-          was_good = g;
-          lf = ltb-true _ _ h;
-          key_is_lem = e;
-          value_good = c;
-          next = ap (λ (x : Reading). x.at) (line_taken text row s g z);
-        }
-    keyed g h z false e c = absurd (omega arith)
-
-    ended_line : s.refusal ≡ 0 → (line_at text s.at row).code ≡ 0 → (h : Bool) → has 10 rest ≡ h
-        → (cond h (cond (key_is line row.key) (value_of row (value_part line)) (no_line 1)) (no_line 4)).code ≡ 0 → Taken text row s
-    ended_line g z true h c = keyed g h z (key_is line row.key) refl c
-    ended_line g z false h c = absurd (omega arith)
-
-    by : (t : Bool) → eqb s.refusal 0 ≡ t → Taken text row s
-    by true e =
-        let g = eqb-true _ _ e in
-        let z = coded g (eqb (line_at text s.at row).code 0) refl in
-        ended_line g z (has 10 rest) refl z
-    by false e =
-        absurd (eqb-false _ _ e (sym (ap (λ (x : Reading). x.refusal) (refused_stays text row s (eqb-false _ _ e))) ∙ good))
+    by : (h : Bool) → has 10 (drop s.at text) ≡ h → (u : Bool) → key_is (before 10 (drop s.at text)) row.key ≡ u
+        → cond h (cond u (value_of row (value_part (before 10 (drop s.at text)))) (Err NotDue)) (Err TextEnds) ≡ Ok k.line → Taken text row s t
+    by true e true f v = record { lf = ltb-true _ _ e; key_is_lem = f; line = k.line; value_good = v; next = ap (λ (x : Reading). x.at) k.is }
+    by true e false f v = absurd (not_ok _ _ v)
+    by false e u f v = absurd (not_ok _ _ v)
 
 -- a line of another key is not the end line, and the end line is
 other_line : (line key : List ℕ) → apart key (word "end") ≡ true → key_is line key ≡ true → is_end line ≡ false
@@ -132,13 +112,14 @@ other_line line key a = by (has 61 line) refl
     by true e k = simp (e, one_word (before 61 line) key (word "end") a k)
     by false e k = absurd (true≢false (sym k))
 
-end_line : (line : List ℕ) → key_is line end_row.key ≡ true → (value_of end_row (value_part line)).code ≡ 0 → is_end line ≡ true
+end_line : (line : List ℕ) (l : Line) → key_is line end_row.key ≡ true → value_of end_row (value_part line) ≡ Ok l → is_end line ≡ true
 unfolding end_row value_of
-end_line line k c = rw k (by (word_is (value_part line) (word "hour")) refl c)
+end_line line l k c = rw k (by (word_is (value_part line) (word "hour")) refl c)
   where
-    by : (t : Bool) → word_is (value_part line) (word "hour") ≡ t → (cond t (no_line 0) (no_line 2)).code ≡ 0 → word_is (value_part line) (word "hour") ≡ true
+    by : (t : Bool) → word_is (value_part line) (word "hour") ≡ t → ◌≡◌ {A = Result Line TextFault} (cond t (Ok no_line) (Err BadValue)) (Ok l)
+        → word_is (value_part line) (word "hour") ≡ true
     by true e z = e
-    by false e z = absurd (omega arith)
+    by false e z = absurd (not_ok _ _ z)
 
 last_row : (n : ℕ) → row_at n (head_lines + unit_lines * n) ≡ end_row
 unfolding row_at
@@ -146,51 +127,65 @@ last_row n =
     simp (le-ltb (head_lines + unit_lines * n) head_lines (omega arith), le-ltb (head_lines + unit_lines * n) (head_lines + unit_lines * n) (omega arith))
 
 module _ (text : List ℕ) (n : ℕ) where
-  abbrev after : ℕ → Reading
-  after k = read_by text (due_row n) k begin
+  counted : (k : ℕ) (s : Reading) → read_by text (due_row n) k begin ≡ Ok s → length s.lines ≡ k
+  counted k s e = let c = (onward text (due_row n) k begin s e).counted in omega (arith, c)
 
-  counted : (k : ℕ) → (after k).refusal ≡ 0 → length (after k).lines ≡ k
-  counted k g = let c = (onward text (due_row n) k begin).counted g in omega (arith, c)
+  -- where the line at a reading's place ends, and that it is one of the text's
+  abbrev lf : Reading → ℕ
+  lf s = s.at + seek 10 10 (drop s.at text)
 
-  -- where the line after the first k ends, and that it is one of the text's
-  abbrev lf : ℕ → ℕ
-  lf k = (after k).at + seek 10 10 (drop (after k).at text)
+  abbrev row : Reading → Row
+  row s = due_row n s.lines
 
-  abbrev row : ℕ → Row
-  row k = due_row n (after k).lines
+  in_text : (s t : Reading) → Taken text (row s) s t → lf s < length text
+  in_text s t k = let l = k.lf in omega (arith, l, length-drop s.at text)
 
-  in_text : (k : ℕ) → Taken text (row k) (after k) → lf k < length text
-  in_text k t = let l = t.lf in omega (arith, l, length-drop (after k).at text)
+  -- a line before the last is passed
+  passed : (k : ℕ) → k < head_lines + unit_lines * n → (u s : Reading) → read_by text (due_row n) k begin ≡ Ok u → read_line text (row u) u ≡ Ok s
+      → behind true text ≡ u.at + behind true (drop u.at text) → behind true text ≡ s.at + behind true (drop s.at text)
+  passed k l u s e h before_it =
+      let t = taken text (row u) u s h in
+      let key = subst (λ (j : ℕ). apart (row_at n j).key (word "end") ≡ true) (sym (counted k u e)) (row_apart n k l) in
+      let other = other_line (before 10 (drop u.at text)) (row u).key key t.key_is_lem in
+      let on = goes_on text u.at (lf u) refl (in_text u s t) (ap is_end (whole text u.at (lf u) refl (in_text u s t)) ∙ other) in
+      rw t.next (before_it ∙ on)
 
-  -- the lines before the last are passed
-  so_far : (k : ℕ) → k ≤ head_lines + unit_lines * n → (after k).refusal ≡ 0 → behind true text ≡ (after k).at + behind true (drop (after k).at text)
+  so_far : (k : ℕ) → k ≤ head_lines + unit_lines * n → (s : Reading) → read_by text (due_row n) k begin ≡ Ok s
+      → behind true text ≡ s.at + behind true (drop s.at text)
   unfolding read_by
-  so_far zero l g = omega arith
-  so_far (suc k) l g =
-      let t = taken text (row k) (after k) g in
-      let key = subst (λ (j : ℕ). apart (row_at n j).key (word "end") ≡ true) (sym (counted k t.was_good)) (row_apart n k (omega arith)) in
-      let other = other_line (before 10 (drop (after k).at text)) (row k).key key t.key_is_lem in
-      let passed = goes_on text (after k).at (lf k) refl (in_text k t) (ap is_end (whole text (after k).at (lf k) refl (in_text k t)) ∙ other) in
-      rw t.next (so_far k (omega arith) t.was_good ∙ passed)
+  so_far zero l s = λ e. rw (sym (same_ok _ _ e)) (omega arith)
+  so_far (suc k) l s = by (so_far k (omega arith)) (read_by text (due_row n) k begin) refl
+    where
+      by : ((u : Reading) → read_by text (due_row n) k begin ≡ Ok u → behind true text ≡ u.at + behind true (drop u.at text))
+          → (r : Result Reading TextRefusal) → read_by text (due_row n) k begin ≡ r → further r (λ u. read_line text (row u) u) ≡ Ok s
+          → behind true text ≡ s.at + behind true (drop s.at text)
+      by more (Ok u) e h = passed k (omega arith) u s e h (more u e)
+      by more (Err f) e h = absurd (not_ok _ _ h)
 
   -- and the last is the end line
-  read_ends : (read_lines text n).refusal ≡ 0 → behind true text ≡ (read_lines text n).at
-  unfolding read_lines
-  read_ends good =
+  ends_after : (u s : Reading) → read_by text (due_row n) (head_lines + unit_lines * n) begin ≡ Ok u → read_line text (row u) u ≡ Ok s → behind true text ≡ s.at
+  ends_after u s e h =
       let m : ℕ = head_lines + unit_lines * n in
-      let e = by_next text (due_row n) m begin in
-      let t = taken text (row m) (after m) (sym (ap (λ (x : Reading). x.refusal) e) ∙ good) in
-      let r : row m ≡ end_row = ap (row_at n) (counted m t.was_good) ∙ last_row n in
-      let line : List ℕ = before 10 (drop (after m).at text) in
-      let is = end_line line (subst (λ (x : Row). key_is line x.key ≡ true) r t.key_is_lem) (subst (λ (x : Row). (value_of x (value_part line)).code ≡ 0) r t.value_good) in
-      so_far m (omega arith) t.was_good
-      ∙ (at_end text (after m).at (lf m) refl (in_text m t) (ap is_end (whole text (after m).at (lf m) refl (in_text m t)) ∙ is)
-      ∙ (sym t.next ∙ sym (ap (λ (x : Reading). x.at) e)))
+      let t = taken text (row u) u s h in
+      let r : row u ≡ end_row = ap (row_at n) (counted m u e) ∙ last_row n in
+      let line : List ℕ = before 10 (drop u.at text) in
+      let is = end_line line t.line (subst (λ (x : Row). key_is line x.key ≡ true) r t.key_is_lem) (subst (λ (x : Row). value_of x (value_part line) ≡ Ok t.line) r t.value_good) in
+      so_far m (omega arith) u e
+      ∙ (at_end text u.at (lf u) refl (in_text u s t) (ap is_end (whole text u.at (lf u) refl (in_text u s t)) ∙ is)
+      ∙ sym t.next)
+
+  read_ends : (s : Reading) → read_lines text n ≡ Ok s → behind true text ≡ s.at
+  unfolding read_lines
+  read_ends s good = by (read_by text (due_row n) (head_lines + unit_lines * n) begin) refl
+    where
+      by : (r : Result Reading TextRefusal) → read_by text (due_row n) (head_lines + unit_lines * n) begin ≡ r → behind true text ≡ s.at
+      by (Ok u) e = ends_after u s e (sym (by_next text (due_row n) (head_lines + unit_lines * n) begin u e) ∙ good)
+      by (Err f) e = absurd (not_ok _ _ (sym (by_refused text (due_row n) (head_lines + unit_lines * n) 1 (head_lines + unit_lines * n + 1) begin f refl e) ∙ good))
 
 -- "a line that is exactly `end=hour`": the first from the record's first byte on is the record's last
 pub record_ends : (text : List ℕ) (start units : ℕ) (monthly : List GrossKwh) (place : ℕ) → (read_record text start units monthly).answer ≡ Read place
     → behind_record text start ≡ place
 record_ends text start units monthly place read =
     let e = ended text start units monthly place read in
-    let b = read_ends (drop start text) (unit_count units) e.good in
+    let b = read_ends (drop start text) (unit_count units) e.reading e.good in
     omega (arith, b, e.place_is)

@@ -8,10 +8,7 @@ ghost use Rattle.record_end.specs.End.{is_end, behind_record};
 fn is_end(line: &[u8]) -> bool
     ensures { result ≡ is_end line.now }
 {
-    if text::key_is(line, *b"end=======") {
-        return text::word_is(text::value_of(line), *b"hour======");
-    }
-    false
+    text::key_is(line, *b"end=======") && text::word_is(text::value_of(line), *b"hour======")
 }
 
 // The place behind the next line that is exactly `end=hour`, or the text's end. A record that is accepted ends there too, since no

@@ -1,6 +1,6 @@
 -- What the lines of a good record are: as many as the plant's units ask for, each by the row of its place.
 -- Assumes nothing.
-use mathlib.Core.Path.{◌≡◌, refl, ap, subst}
+use mathlib.Core.Path.{◌≡◌, ap, subst}
 use mathlib.Core.List.{List}
 use Prim.Native.Nat.{ℕ, ◌+◌, ◌*◌, ◌-◌, ◌%◌, ◌≤◌, ◌<◌}
 use native.Mathlib.Nat.{not-suc-le-zero}
@@ -8,20 +8,14 @@ use native.Mathlib.Omega.{arith}
 use borrow.Author.Tests.{lt-ltb, le-ltb}
 use lib.ListN.{length, get_or}
 use lib.Seq.{length-take-le}
+use Rattle.std.specs.Prelude.{Ok}
 use Rattle.text.specs.declared.Row.{Row}
 use Rattle.text.specs.declared.Line.{Line}
-use Rattle.lines.specs.declared.Cursor.{Cursor}
-use Rattle.lines.specs.Lines.{begin, line_of}
-use Rattle.lines.specs.Cells.{Shows}
+use Rattle.lines.specs.Lines.{Reading, begin, line_of}
 use Rattle.lines.proofs.Reading.{Keeps}
 use Rattle.lines.proofs.Due.{Onward, Ordered, onward}
 use Rattle.record_lines.specs.Rows.{head_rows, unit_rows, end_row, head_lines, unit_lines, row_at, due_row, read_lines}
 use Rattle.record_lines.specs.Rows.{block_line}
-
--- where nothing is read yet, any cells show it
-pub nothing_read : (cells : List ℕ) (c : Cursor) → c ≡ record { refusal = 0; at = 0; lines = 0 } → Shows cells c begin
-nothing_read cells c e =
-    rw e (record { refusal_is = refl; at_is = refl; lines_is = refl; kept = λ k h r. absurd (not-suc-le-zero h) })
 
 -- the lines of a record of n units, each by its row
 pub record Whole (n : ℕ) (lines : List Line) : Type 0 where
@@ -42,32 +36,29 @@ in_block n j i h l =
     let b : k < head_lines + unit_lines * n = omega arith in
     simp (le-ltb _ _ a, lt-ltb _ _ b) (ap (λ (x : ℕ). get_or unit_rows x end_row) e)
 
-module _ (text : List ℕ) (n : ℕ) where
-  all : Onward text (due_row n) (head_lines + unit_lines * n + 1) begin (read_lines text n)
+module _ (text : List ℕ) (n : ℕ) (s : Reading) (good : read_lines text n ≡ Ok s) where
+  all : Onward text (due_row n) (head_lines + unit_lines * n + 1) begin s
   unfolding read_lines
-  all = onward text (due_row n) (head_lines + unit_lines * n + 1) begin
+  all = onward text (due_row n) (head_lines + unit_lines * n + 1) begin s good
 
   -- the place where the reading stands
-  pub place_in : (read_lines text n).at ≤ length text
+  pub place_in : s.at ≤ length text
   place_in = all.inside (omega arith)
 
-  module _ (good : (read_lines text n).refusal ≡ 0) where
-    pub place_past : 1 ≤ (read_lines text n).at
-    place_past = omega (arith, all.further good)
+  pub place_past : 1 ≤ s.at
+  place_past = omega (arith, all.further)
 
-    keeps_at : (k : ℕ) → k < length (read_lines text n).lines → Keeps (row_at n k) (line_of (read_lines text n).lines k)
-    keeps_at k h =
-        let lines = (read_lines text n).lines in
-        let ordered : Ordered (due_row n) lines = all.in_order_lem (record { keeps = λ k h. absurd (not-suc-le-zero h) }) in
-        subst (λ (m : ℕ). Keeps (row_at n m) (line_of lines k)) (length-take-le k lines (omega arith)) (ordered.keeps k h)
+  keeps_at : (k : ℕ) → k < length s.lines → Keeps (row_at n k) (line_of s.lines k)
+  keeps_at k h =
+      let ordered : Ordered (due_row n) s.lines = all.in_order_lem (record { keeps = λ k h. absurd (not-suc-le-zero h) }) in
+      subst (λ (m : ℕ). Keeps (row_at n m) (line_of s.lines k)) (length-take-le k s.lines (omega arith)) (ordered.keeps k h)
 
-    pub whole : Whole n (read_lines text n).lines
-    whole =
-        let lines = (read_lines text n).lines in
-        let c : length lines ≡ head_lines + unit_lines * n + 1 = omega (arith, all.counted good) in
-        record {
-          count = c;
-          head = λ k h. subst (λ (r : Row). Keeps r (line_of lines k)) (in_head n k h) (keeps_at k (omega arith));
-          block = λ j i h l.
-              subst (λ (r : Row). Keeps r (line_of lines (block_line j + i))) (in_block n j i h l) (keeps_at (block_line j + i) (omega arith));
-        }
+  pub whole : Whole n s.lines
+  whole =
+      let c : length s.lines ≡ head_lines + unit_lines * n + 1 = omega (arith, all.counted) in
+      record {
+        count = c;
+        head = λ k h. subst (λ (r : Row). Keeps r (line_of s.lines k)) (in_head n k h) (keeps_at k (omega arith));
+        block = λ j i h l.
+            subst (λ (r : Row). Keeps r (line_of s.lines (block_line j + i))) (in_block n j i h l) (keeps_at (block_line j + i) (omega arith));
+      }

@@ -1,8 +1,9 @@
 -- The lines due in an hour record, in their order (01, Hour record). A new kind of line is a new row here, and its line below.
-use Rattle.std.specs.Prelude.{ℕ, ◌+◌, ◌*◌, ◌-◌, ◌%◌, cond, List, [], ◌∷◌, ltb, length, get_or}
+use Rattle.std.specs.Prelude.{ℕ, ◌+◌, ◌*◌, ◌-◌, ◌%◌, true, false, cond, Result, List, [], ◌∷◌, ltb, length, get_or}
 use Rattle.text.specs.Rows.{word, limits, number_row, blank_row, word_row}
 use Rattle.text.specs.declared.Row.{Row}
 use Rattle.text.specs.declared.Line.{Line}
+use Rattle.lines.specs.declared.TextRefusal.{TextRefusal}
 use Rattle.lines.specs.Lines.{Reading, begin, read_by}
 use Rattle.record.specs.Limits.{last_hour, most_plant_kwh, most_kwh, most_since, most_spans, hour_minutes, last_kind, last_cause}
 
@@ -21,8 +22,8 @@ spans_row =
     record {
       key = word "spans";
       word = word "";
-      blank = 1;
-      order = 0;
+      blank = true;
+      order = false;
       parts = 4;
       most = 4 * most_spans;
       low = limits 1 1 0 0;
@@ -108,5 +109,5 @@ abbrev pub due_row : ℕ → List Line → Row
 due_row n lines = row_at n (length lines)
 
 -- the lines of a record that begins where the text does: the head, a block for each of n units, the end
-unfoldable pub read_lines : List ℕ → ℕ → Reading
+unfoldable pub read_lines : List ℕ → ℕ → Result Reading TextRefusal
 read_lines text n = read_by text (due_row n) (head_lines + unit_lines * n + 1) begin

@@ -1,25 +1,24 @@
 // The lines of an hour record: the row due at each place, and their reading.
 #![tactic(auto)]
 
-ghost use Rattle.std.specs.Prelude.{◌≡◌, ◌≤◌, ◌<◌, get_or};
-ghost use Rattle.lines.specs.Cells.{Blank, Shows};
+ghost use Rattle.std.specs.Prelude.{◌≡◌, ◌≤◌, ◌<◌, get_or, IfOk, Ok};
+ghost use Rattle.lines.specs.Lines.{Reading};
+ghost use Rattle.lines.specs.Cells.{Kept, cursors};
 ghost use Rattle.record_lines.specs.Rows.{head_rows, unit_rows, spans_row, end_row, row_at, read_lines};
 
-use lines::Cursor;
-use text::Row;
+use lines::{Cursor, TextRefusal};
+use text::{Line, Row};
 
 // Line k of the head, from 0.
 fn head_row(k: usize) -> Row
     requires { k < 3 }
     ensures { result ≡ get_or head_rows k end_row }
 {
-    if k == 0 {
-        return text::number_row(*b"hour======", 1, 24);
+    match k {
+        0 => text::number_row(*b"hour======", 1, 24),
+        1 => text::blank_row(*b"net=======", 0, 8000000),
+        _ => text::blank_row(*b"reverse===", 0, 8000000),
     }
-    if k == 1 {
-        return text::blank_row(*b"net=======", 0, 8000000);
-    }
-    text::blank_row(*b"reverse===", 0, 8000000)
 }
 
 fn spans_row() -> Row
@@ -28,8 +27,8 @@ fn spans_row() -> Row
     Row {
         key: *b"spans=====",
         word: *b"==========",
-        blank: 1,
-        order: 0,
+        blank: true,
+        order: false,
         parts: 4,
         most: 24,
         low: [1, 1, 0, 0],
@@ -42,31 +41,17 @@ fn unit_row(k: usize) -> Row
     requires { k < 9 }
     ensures { result ≡ get_or unit_rows k end_row }
 {
-    if k == 0 {
-        return text::blank_row(*b"declared==", 0, 1000000);
+    match k {
+        0 => text::blank_row(*b"declared==", 0, 1000000),
+        1 => text::blank_row(*b"real======", 0, 1000000),
+        2 => text::blank_row(*b"test======", 0, 1000000),
+        3 => text::blank_row(*b"deviation=", 0, 1000000),
+        4 => text::blank_row(*b"power=====", 0, 1000000),
+        5 => text::blank_row(*b"reading===", 0, 1000000),
+        6 => text::blank_row(*b"since=====", 1, 744),
+        7 => text::blank_row(*b"repair====", 0, 1),
+        _ => spans_row(),
     }
-    if k == 1 {
-        return text::blank_row(*b"real======", 0, 1000000);
-    }
-    if k == 2 {
-        return text::blank_row(*b"test======", 0, 1000000);
-    }
-    if k == 3 {
-        return text::blank_row(*b"deviation=", 0, 1000000);
-    }
-    if k == 4 {
-        return text::blank_row(*b"power=====", 0, 1000000);
-    }
-    if k == 5 {
-        return text::blank_row(*b"reading===", 0, 1000000);
-    }
-    if k == 6 {
-        return text::blank_row(*b"since=====", 1, 744);
-    }
-    if k == 7 {
-        return text::blank_row(*b"repair====", 0, 1);
-    }
-    spans_row()
 }
 
 fn end_row() -> Row
@@ -81,27 +66,25 @@ fn row_at(n: usize, k: usize) -> Row
     ensures { result ≡ row_at n k }
 {
     if k < 3 {
-        return head_row(k);
+        head_row(k)
+    } else if k < 3 + 9 * n {
+        unit_row((k - 3) % 9)
+    } else {
+        end_row()
     }
-    if k < 3 + 9 * n {
-        return unit_row((k - 3) % 9);
-    }
-    end_row()
 }
 
 // The lines of a record that begins where the text does, in a plant of n units.
-pub fn read_lines(text: &[u8], n: usize, cells: &mut [u64]) -> Cursor
+pub fn read_lines(text: &[u8], n: usize, kept: &mut [Line]) -> Result<Cursor, TextRefusal>
     requires n_bound { n ≤ 64 }
-    requires blank { Blank cells.old 0 }
-    ensures shows { Shows cells.new result (read_lines text.now n) }
-    ensures lines_bound { result.lines < 10000 }
+    ensures cursor { result ≡ cursors (read_lines text.now n) }
+    ensures kept { (s : Reading) → read_lines text.now n ≡ Ok s → Kept kept.new s.lines }
+    ensures lines_bound { IfOk result (λ d. d.lines < 10000) }
 {
     let due = 3 + 9 * n + 1;
     let mut c = lines::start();
-    let mut i: usize = 0;
-    while i < due {
-        c = lines::read_line(text, row_at(n, c.lines), c, cells);
-        i += 1;
+    for _i in 0..due {
+        c = lines::read_line(text, row_at(n, c.lines), c, kept)?;
     }
-    c
+    Ok(c)
 }

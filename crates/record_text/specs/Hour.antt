@@ -1,11 +1,12 @@
 -- The hour record that the lines make, and its reader (01, Hour record).
-use Rattle.std.specs.Prelude.{ℕ, cond, List, eqb, drop}
+use Rattle.std.specs.Prelude.{ℕ, cond, List, Result, Ok, Err, drop}
 use Rattle.finite.specs.Finite.{tabulate}
 use Rattle.energy.specs.declared.GrossKwh.{GrossKwh}
 use Rattle.units.specs.Units.{unit_count}
 use Rattle.text.specs.declared.Line.{Line}
 use Rattle.lines.specs.Lines.{Reading, line_of, number_of}
-use Rattle.lines.specs.Refusals.{text_refusal, bad_start, answer_of}
+use Rattle.lines.specs.Refusals.{no_start, bad_start, answer_of}
+use Rattle.lines.specs.declared.TextRefusal.{TextRefusal}
 use Rattle.lines.specs.declared.ReadAnswer.TheVariants.{Refused}
 use Rattle.record.specs.declared.Record.{Record}
 use Rattle.record.specs.Empty.{no_record}
@@ -24,12 +25,13 @@ record_by f units monthly =
     }
 
 -- the record of a reading, none where it is refused
-abbrev pub record_of : Reading → ℕ → List GrossKwh → Record
-record_of s units monthly = cond (eqb s.refusal 0) (record_by (line_of s.lines) units monthly) no_record
+abbrev pub record_of : Result Reading TextRefusal → ℕ → List GrossKwh → Record
+record_of (Ok s) units monthly = record_by (line_of s.lines) units monthly
+record_of (Err r) units monthly = no_record
 
 -- a record from `start` on: 4 for size or start first, then the first bad line; "its line numbers start at 1 there"
 unfoldable pub read_record : List ℕ → ℕ → ℕ → List GrossKwh → RecordRead
 read_record text start units monthly =
-    cond (bad_start text start) (record { answer = Refused (text_refusal 4 0); read = no_record })
+    cond (bad_start text start) (record { answer = Refused no_start; read = no_record })
     (let s = read_lines (drop start text) (unit_count units) in
     record { answer = answer_of start s; read = record_of s units monthly })

@@ -3,11 +3,15 @@
 
 ghost use Rattle.std.specs.Prelude.{◌≡◌};
 ghost use Rattle.lines.specs.Cells.{line_in};
+ghost use Rattle.lines.specs.declared.ReadAnswer.TheVariants.{Refused};
+ghost use Rattle.record.specs.Empty.{no_record};
 ghost use Rattle.record_text.specs.Hour.{record_by, read_record};
 
 use energy::{GrossKwh, NetKwh};
-use lines::ReadAnswer;
+use lines::{ReadAnswer, TextRefusal};
 use record::Record;
+use std::array;
+use text::Line;
 
 // What a reader answers, and the record, empty where the text is refused.
 #[derive(Clone, Copy)]
@@ -17,20 +21,23 @@ pub struct RecordRead {
 }
 
 // The record that the lines make.
-fn record_by(cells: &[u64], units: u64, monthly: [GrossKwh; 8]) -> Record
-    ensures { result ≡ record_by (line_in cells.now) units monthly }
+fn record_by(kept: &[Line; 84], units: u64, monthly: [GrossKwh; 8]) -> Record
+    ensures { result ≡ record_by (line_in kept.now) units monthly }
 {
-    let mut unit = [record::no_unit(); 8];
-    let mut k: usize = 0;
-    while k < 8 {
-        unit[k] = blanks::place_by(cells, units, monthly, k);
-        k += 1;
-    }
     Record {
-        hour: lines::number_at(cells, 0, 0),
-        net: NetKwh(blanks::value_or(cells, 1, 0)),
-        reverse: NetKwh(blanks::value_or(cells, 2, 0)),
-        unit: unit,
+        hour: kept[0].number[0],
+        net: NetKwh(blanks::value_or(&kept[1], 0)),
+        reverse: NetKwh(blanks::value_or(&kept[2], 0)),
+        unit: array::from_fn(|k| blanks::place_by(kept, units, monthly, k)),
+    }
+}
+
+fn refused(refusal: TextRefusal) -> RecordRead
+    ensures { result ≡ record { answer = Refused refusal; read = no_record } }
+{
+    RecordRead {
+        answer: ReadAnswer::Refused(refusal),
+        read: record::no_record(),
     }
 }
 
@@ -39,24 +46,17 @@ fn record_by(cells: &[u64], units: u64, monthly: [GrossKwh; 8]) -> Record
 pub fn read_record(text: &[u8], start: u64, units: u64, monthly: [GrossKwh; 8]) -> RecordRead
     ensures { result ≡ read_record text.now start units monthly }
 {
-    if lines::bad_start(text, start) {
-        return RecordRead {
-            answer: ReadAnswer::Refused(lines::text_refusal(4, 0)),
-            read: record::no_record(),
-        };
-    }
-    let at = start as usize;
+    let at = match lines::start_in(text, start) {
+        Ok(at) => at,
+        Err(refusal) => return refused(refusal),
+    };
     let n = units::unit_count(units) as usize;
-    let mut cells = [0u64; 2100];
-    let c = record_lines::read_lines(&text[at..], n, &mut cells);
-    if c.refusal == 0 {
-        return RecordRead {
-            answer: lines::answer_of(at, c),
-            read: record_by(&cells, units, monthly),
-        };
-    }
-    RecordRead {
-        answer: lines::answer_of(at, c),
-        read: record::no_record(),
+    let mut kept = [text::no_line(); 84];
+    match record_lines::read_lines(&text[at..], n, &mut kept) {
+        Ok(c) => RecordRead {
+            answer: ReadAnswer::Read((at + c.at) as u64),
+            read: record_by(&kept, units, monthly),
+        },
+        Err(refusal) => refused(refusal),
     }
 }

@@ -25,7 +25,8 @@ same_row m m' n n' (suc k) f g = by (dec_le 30 (suc k))
         head : (m n : ℕ) → row_at m n (suc k) ≡ get_or (head_rows m) (suc k) end_row
         head m n = simp (lt-ltb (suc k) 30 (omega arith))
 
-pub row_due : (cells : List ℕ) (lines : List Line) → Kept cells lines → 750 ≤ length cells
+-- and what is kept says it
+pub row_due : (cells : List Line) (lines : List Line) → Kept cells lines → 30 ≤ length cells
     → row_at (number_of (line_in cells 0)) (ones (number_of (line_in cells 29))) (length lines) ≡ due_row lines
 row_due cells lines kept room =
     same_row _ _ _ _ (length lines) (λ h. sym (ap number_of (kept 0 h (omega arith)))) (λ h. sym (ap (λ (l : Line). ones (number_of l)) (kept 29 (omega arith) (omega arith))))

@@ -1,4 +1,3 @@
 pub mod Table
 pub mod Due
-pub mod Whole
 pub mod Facts

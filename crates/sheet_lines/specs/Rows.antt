@@ -1,10 +1,11 @@
 -- The lines due in a day sheet, in their order (01, Energies and sheet). A new kind of line is a new row here.
-use Rattle.std.specs.Prelude.{ℕ, ◌+◌, ◌*◌, ◌-◌, ◌%◌, cond, List, [], ◌∷◌, ◌++◌, ltb, length, get_or, replicate}
+use Rattle.std.specs.Prelude.{ℕ, ◌+◌, ◌*◌, ◌-◌, ◌%◌, true, false, cond, Result, List, [], ◌∷◌, ◌++◌, ltb, length, get_or, replicate}
 use Rattle.std.specs.Int.Count.{ones}
 use Rattle.text.specs.Rows.{word, limits, number_row, word_row}
 use Rattle.text.specs.declared.Row.{Row}
 use Rattle.text.specs.declared.Line.{Line}
-use Rattle.lines.specs.Lines.{Reading, begin, read_by, line_of, number_of}
+use Rattle.lines.specs.declared.TextRefusal.{TextRefusal}
+use Rattle.lines.specs.Lines.{Reading, begin, further, read_by, line_of, number_of}
 use Rattle.sheet.specs.Limits.{last_month, last_day, most_loss, most_own, most_ceiling, most_bar, most_cpf, most_units, most_kwh, most_quantity, most_price}
 
 -- "`month` 1–12, `day` (..), `loss` L, `ceiling` (..), `bar` (..), `cpf` 24 lines (..), `units` 1–255"
@@ -23,8 +24,8 @@ offer_row =
     record {
       key = word "offer";
       word = word "";
-      blank = 0;
-      order = 1;
+      blank = false;
+      order = true;
       parts = 2;
       most = 20;
       low = limits 1 0 0 0;
@@ -85,7 +86,6 @@ abbrev pub due_row : List Line → Row
 due_row lines = row_at (number_of (line_of lines 0)) (units_read lines) (length lines)
 
 -- the lines of a sheet that begins where the text does: the head, then a block for each unit and the end
-unfoldable pub read_lines : List ℕ → Reading
+unfoldable pub read_lines : List ℕ → Result Reading TextRefusal
 read_lines text =
-    let head = read_by text due_row head_lines begin in
-    read_by text due_row (unit_lines * units_read head.lines + 1) head
+    further (read_by text due_row head_lines begin) (λ head. read_by text due_row (unit_lines * units_read head.lines + 1) head)

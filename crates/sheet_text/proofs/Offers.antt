@@ -24,7 +24,7 @@ module _ (l : Line) (keeps : Keeps offer_row l) where
 
   count_some : 0 < l.count
   unfolding offer_row
-  count_some = fits.some (λ e. omega arith)
+  count_some = fits.some refl
 
   count_few : l.count ≤ 20
   unfolding offer_row

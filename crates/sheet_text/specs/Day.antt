@@ -1,11 +1,12 @@
 -- The day sheet that the lines make, and its reader (01, Energies and sheet).
-use Rattle.std.specs.Prelude.{ℕ, ◌+◌, ◌*◌, ◌/◌, cond, List, eqb, drop, get_or}
+use Rattle.std.specs.Prelude.{ℕ, ◌+◌, ◌*◌, ◌/◌, cond, List, Result, Ok, Err, drop, get_or}
 use Rattle.finite.specs.Finite.{tabulate}
 use Rattle.units.specs.Units.{member_at, members}
 use Rattle.offer.specs.declared.Offer.{Offer}
 use Rattle.text.specs.declared.Line.{Line}
 use Rattle.lines.specs.Lines.{Reading, line_of, number_of}
-use Rattle.lines.specs.Refusals.{text_refusal, bad_start, answer_of}
+use Rattle.lines.specs.Refusals.{no_start, bad_start, answer_of}
+use Rattle.lines.specs.declared.TextRefusal.{TextRefusal}
 use Rattle.lines.specs.declared.ReadAnswer.TheVariants.{Refused}
 use Rattle.sheet.specs.declared.UnitSheet.{UnitSheet}
 use Rattle.sheet.specs.declared.Sheet.{Sheet}
@@ -50,12 +51,13 @@ sheet_by f =
     }
 
 -- the sheet of a reading, none where it is refused
-abbrev pub sheet_of : Reading → Sheet
-sheet_of s = cond (eqb s.refusal 0) (sheet_by (line_of s.lines)) no_sheet
+abbrev pub sheet_of : Result Reading TextRefusal → Sheet
+sheet_of (Ok s) = sheet_by (line_of s.lines)
+sheet_of (Err r) = no_sheet
 
 -- a sheet from `start` on: 4 for size or start first, then the first bad line
 unfoldable pub read_sheet : List ℕ → ℕ → SheetRead
 read_sheet text start =
-    cond (bad_start text start) (record { answer = Refused (text_refusal 4 0); sheet = no_sheet })
+    cond (bad_start text start) (record { answer = Refused no_start; sheet = no_sheet })
     (let s = read_lines (drop start text) in
     record { answer = answer_of start s; sheet = sheet_of s })

@@ -1,14 +1,18 @@
 // The day sheet in a text: its reader.
 #![tactic(auto)]
 
-ghost use Rattle.std.specs.Prelude.{◌≡◌, ◌^◌, ◌≤◌, ◌<◌};
+ghost use Rattle.std.specs.Prelude.{◌≡◌, ◌≤◌, ◌<◌};
 ghost use Rattle.lines.specs.Cells.{line_in};
 ghost use Rattle.sheet_text.specs.Day.{offer_by, unit_by, place_by, sheet_by, read_sheet};
+ghost use Rattle.sheet.specs.Empty.{no_sheet};
+ghost use Rattle.lines.specs.declared.ReadAnswer.TheVariants.{Refused};
 
 use energy::{GrossKwh, HubKwh};
-use lines::ReadAnswer;
+use lines::{ReadAnswer, TextRefusal};
 use offer::Offer;
 use sheet::{Sheet, UnitSheet};
+use std::array;
+use text::Line;
 
 // What a reader answers, and the sheet, empty where the text is refused.
 #[derive(Clone, Copy)]
@@ -17,88 +21,66 @@ pub struct SheetRead {
     pub sheet: Sheet,
 }
 
-fn offer_by(cells: &[u64], k: usize) -> Offer
-    requires { k < 2 ^ 32 }
-    ensures { result ≡ offer_by (line_in cells.now k) }
+// The pairs quantity:price of a line.
+fn offer_by(line: &Line) -> Offer
+    ensures { result ≡ offer_by line.now }
 {
-    let mut quantity = [HubKwh(0); 10];
-    let mut price = [0u64; 10];
-    let mut s: usize = 0;
-    while s < 10 {
-        quantity[s] = HubKwh(lines::number_at(cells, k, 2 * s));
-        price[s] = lines::number_at(cells, k, 2 * s + 1);
-        s += 1;
-    }
     Offer {
-        steps: lines::count_at(cells, k) / 2,
-        quantity: quantity,
-        price: price,
+        steps: line.count / 2,
+        quantity: array::from_fn(|s| HubKwh(line.number[2 * s])),
+        price: array::from_fn(|s| line.number[2 * s + 1]),
     }
 }
 
 // Block j of the units.
-fn unit_by(cells: &[u64], j: usize) -> UnitSheet
+fn unit_by(kept: &[Line; 280], j: usize) -> UnitSheet
     requires { j ≤ 8 }
-    ensures { result ≡ unit_by (line_in cells.now) j }
+    ensures { result ≡ unit_by (line_in kept.now) j }
 {
     let at = 30 + 27 * j;
-    let mut offers = [offer::no_offer(); 24];
-    let mut h: usize = 0;
-    while h < 24 {
-        offers[h] = offer_by(cells, at + 3 + h);
-        h += 1;
-    }
     UnitSheet {
-        own: sheet_lines::first_at(cells, at),
-        nominal: GrossKwh(sheet_lines::first_at(cells, at + 1)),
-        monthly: GrossKwh(sheet_lines::first_at(cells, at + 2)),
-        offers: offers,
+        own: kept[at].number[0],
+        nominal: GrossKwh(kept[at + 1].number[0]),
+        monthly: GrossKwh(kept[at + 2].number[0]),
+        offers: array::from_fn(|h| offer_by(&kept[at + 3 + h])),
     }
 }
 
 // The unit of place k.
-fn place_by(cells: &[u64], units: u64, k: usize) -> UnitSheet
+fn place_by(kept: &[Line; 280], units: u64, k: usize) -> UnitSheet
     requires { k < 8 }
-    ensures { result ≡ place_by (line_in cells.now) units k }
+    ensures { result ≡ place_by (line_in kept.now) units k }
 {
     if units::member_at(units, k) {
-        return unit_by(cells, units::block_of(units, k));
+        unit_by(kept, units::block_of(units, k))
+    } else {
+        sheet::no_unit()
     }
-    sheet::no_unit()
-}
-
-fn cpf_by(cells: &[u64]) -> [u64; 24]
-    ensures { result ≡ (sheet_by (line_in cells.now)).cpf }
-{
-    let mut cpf = [0u64; 24];
-    let mut h: usize = 0;
-    while h < 24 {
-        cpf[h] = sheet_lines::first_at(cells, 5 + h);
-        h += 1;
-    }
-    cpf
 }
 
 // The sheet that the lines make.
-fn sheet_by(cells: &[u64]) -> Sheet
-    ensures { result ≡ sheet_by (line_in cells.now) }
+fn sheet_by(kept: &[Line; 280]) -> Sheet
+    ensures { result ≡ sheet_by (line_in kept.now) }
 {
-    let units = sheet_lines::first_at(cells, 29);
-    let mut unit = [sheet::no_unit(); 8];
-    let mut k: usize = 0;
-    while k < 8 {
-        unit[k] = place_by(cells, units, k);
-        k += 1;
-    }
+    let units = kept[29].number[0];
     Sheet {
-        month: sheet_lines::first_at(cells, 0),
-        day: sheet_lines::first_at(cells, 1),
-        loss: sheet_lines::first_at(cells, 2),
-        ceiling: sheet_lines::first_at(cells, 3),
-        bar: sheet_lines::first_at(cells, 4),
-        cpf: cpf_by(cells),
-        units: units,
-        unit: unit,
+        month: kept[0].number[0],
+        day: kept[1].number[0],
+        loss: kept[2].number[0],
+        ceiling: kept[3].number[0],
+        bar: kept[4].number[0],
+        cpf: array::from_fn(|h| kept[5 + h].number[0]),
+        units,
+        unit: array::from_fn(|k| place_by(kept, units, k)),
+    }
+}
+
+fn refused(refusal: TextRefusal) -> SheetRead
+    ensures { result ≡ record { answer = Refused refusal; sheet = no_sheet } }
+{
+    SheetRead {
+        answer: ReadAnswer::Refused(refusal),
+        sheet: sheet::no_sheet(),
     }
 }
 
@@ -106,23 +88,16 @@ fn sheet_by(cells: &[u64]) -> Sheet
 pub fn read_sheet(text: &[u8], start: u64) -> SheetRead
     ensures { result ≡ read_sheet text.now start }
 {
-    if lines::bad_start(text, start) {
-        return SheetRead {
-            answer: ReadAnswer::Refused(lines::text_refusal(4, 0)),
-            sheet: sheet::no_sheet(),
-        };
-    }
-    let at = start as usize;
-    let mut cells = [0u64; 7000];
-    let c = sheet_lines::read_lines(&text[at..], &mut cells);
-    if c.refusal == 0 {
-        return SheetRead {
-            answer: lines::answer_of(at, c),
-            sheet: sheet_by(&cells),
-        };
-    }
-    SheetRead {
-        answer: lines::answer_of(at, c),
-        sheet: sheet::no_sheet(),
+    let at = match lines::start_in(text, start) {
+        Ok(at) => at,
+        Err(refusal) => return refused(refusal),
+    };
+    let mut kept = [text::no_line(); 280];
+    match sheet_lines::read_lines(&text[at..], &mut kept) {
+        Ok(c) => SheetRead {
+            answer: ReadAnswer::Read((at + c.at) as u64),
+            sheet: sheet_by(&kept),
+        },
+        Err(refusal) => refused(refusal),
     }
 }

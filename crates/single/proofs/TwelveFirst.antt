@@ -9,7 +9,8 @@ use lib.Dec.{eqb}
 use Rattle.lines.specs.declared.ReadAnswer.{ReadAnswer}
 use Rattle.lines.specs.declared.ReadAnswer.TheVariants.{Read, Refused as unread}
 use Rattle.lines.specs.declared.TextRefusal.{TextRefusal}
-use Rattle.lines.specs.declared.TextRefusal.TheVariants.{NotDue, BadValue, OfferOrder, TextEnds}
+use Rattle.text.specs.declared.TextFault.{TextFault}
+use Rattle.text.specs.declared.TextFault.TheVariants.{NotDue, BadValue, OfferOrder, TextEnds}
 use Rattle.sheet.specs.declared.Sheet.{Sheet}
 use Rattle.state.specs.declared.Book.{Book}
 use Rattle.ledger.specs.declared.Refusal.{Refusal}
@@ -32,12 +33,15 @@ other_row r rs e h = by r.holds
     by true = e
     by false = h
 
-other_text : (t : TextRefusal) → nine_first (Text t) ≡ BookRange
+other_fault : (f : TextFault) (line : ℕ) → nine_first (Text (record { fault = f; line = line })) ≡ BookRange
 unfolding nine_first
-other_text (NotDue line) = refl
-other_text (BadValue line) = refl
-other_text (OfferOrder line) = refl
-other_text (TextEnds line) = refl
+other_fault NotDue line = refl
+other_fault BadValue line = refl
+other_fault OfferOrder line = refl
+other_fault TextEnds line = refl
+
+other_text : (t : TextRefusal) → nine_first (Text t) ≡ BookRange
+other_text t = other_fault t.fault t.line
 
 module _ (s : Sheet) (b : Book) (q : Request) (count places : ℕ) where
   none : OtherThan9 (verdict [])

@@ -1,21 +1,41 @@
 // One line key=value of a text: its key, the part that is its value, words and decimal numbers; a row says what one kind of line may be.
 #![tactic(auto)]
 
-ghost use Rattle.std.specs.Prelude.{◌≡◌, ℕ, ◌+◌, ◌*◌, ◌<◌, leb, drop};
-ghost use Rattle.text.specs.declared.Number.TheVariants.{Value, Malformed};
-ghost use Rattle.text.specs.Text.{seek, value_part, word_is, key_is, digits, number_in};
-ghost use Rattle.text.specs.Rows.{number_row, blank_row, word_row, part_bytes};
+ghost use Rattle.std.specs.Prelude.{◌≡◌, ◌+◌, ◌*◌, drop};
+ghost use Rattle.text.specs.Text.{fault_number, seek, value_part, word_is, key_is, digits, number_in, part_with, within};
+ghost use Rattle.text.specs.Rows.{number_row, blank_row, word_row, no_line, part_bytes};
 
-#[derive(Clone, Copy)]
-pub enum Number {
-    Value(u64),
-    Malformed,
+// Why a text is refused: document 01's numbers 1 to 4.
+#[derive(Clone, Copy, PartialEq, Eq)]
+pub enum TextFault {
+    // not key=value, or not the key due
+    NotDue,
+    // value malformed or out of range
+    BadValue,
+    // offer order broken
+    OfferOrder,
+    // over 65,536 bytes, a start past its end, or it ends inside a line or before its `end` line
+    TextEnds,
+}
+
+impl TextFault {
+    // Document 01's number.
+    pub fn number(self) -> u64
+        ensures { result ≡ fault_number self }
+    {
+        match self {
+            TextFault::NotDue => 1,
+            TextFault::BadValue => 2,
+            TextFault::OfferOrder => 3,
+            TextFault::TextEnds => 4,
+        }
+    }
 }
 
 // One number of a value, and the place of the mark after it or the end.
-#[derive(Clone, Copy)]
+#[derive(Clone, Copy, PartialEq, Eq)]
 pub struct Part {
-    pub number: Number,
+    pub number: u64,
     pub end: usize,
 }
 
@@ -25,10 +45,10 @@ pub struct Row {
     pub key: [u8; 10],
     // what the value must be, where there are no parts
     pub word: [u8; 10],
-    // 1: the value may be blank
-    pub blank: u64,
-    // 1: pairs whose first numbers rise and whose second never fall
-    pub order: u64,
+    // whether the value may be blank
+    pub blank: bool,
+    // whether it is pairs whose first numbers rise and whose second never fall
+    pub order: bool,
     // numbers in a group, joined by ':'; groups are joined by ','
     pub parts: usize,
     // numbers in the value, at most
@@ -37,19 +57,21 @@ pub struct Row {
     pub high: [u64; 4],
 }
 
-// What stands in a line: its numbers, none where the value is blank or a word. The code is 0, or the refusal.
+// The numbers of a line, none where its value is blank or a word.
 #[derive(Clone, Copy)]
 pub struct Line {
-    pub code: u64,
     pub count: usize,
     pub number: [u64; 24],
 }
 
-// What stands in a line beside its numbers: the code and the count.
-#[derive(Clone, Copy)]
-pub struct Head {
-    pub code: u64,
-    pub count: usize,
+// A line that holds nothing.
+pub fn no_line() -> Line
+    ensures { result ≡ no_line }
+{
+    Line {
+        count: 0,
+        number: [0; 24],
+    }
 }
 
 // key=number, from low to high.
@@ -57,10 +79,10 @@ pub fn number_row(key: [u8; 10], low: u64, high: u64) -> Row
     ensures { result ≡ number_row key low high }
 {
     Row {
-        key: key,
+        key,
         word: *b"==========",
-        blank: 0,
-        order: 0,
+        blank: false,
+        order: false,
         parts: 1,
         most: 1,
         low: [low, 0, 0, 0],
@@ -73,14 +95,8 @@ pub fn blank_row(key: [u8; 10], low: u64, high: u64) -> Row
     ensures { result ≡ blank_row key low high }
 {
     Row {
-        key: key,
-        word: *b"==========",
-        blank: 1,
-        order: 0,
-        parts: 1,
-        most: 1,
-        low: [low, 0, 0, 0],
-        high: [high, 0, 0, 0],
+        blank: true,
+        ..number_row(key, low, high)
     }
 }
 
@@ -89,14 +105,14 @@ pub fn word_row(key: [u8; 10], word: [u8; 10]) -> Row
     ensures { result ≡ word_row key word }
 {
     Row {
-        key: key,
-        word: word,
-        blank: 0,
-        order: 0,
+        key,
+        word,
+        blank: false,
+        order: false,
         parts: 0,
         most: 0,
-        low: [0, 0, 0, 0],
-        high: [0, 0, 0, 0],
+        low: [0; 4],
+        high: [0; 4],
     }
 }
 
@@ -104,14 +120,10 @@ pub fn word_row(key: [u8; 10], word: [u8; 10]) -> Row
 pub fn find(s: &[u8], from: usize, mark: u8) -> usize
     ensures { result ≡ from + seek mark mark (drop from s.now) }
 {
-    let mut i = from;
-    while i < s.len() {
-        if s[i] == mark {
-            return i;
-        }
-        i += 1;
-    }
-    i
+    let Some(rest) = s.get(from..) else {
+        return from;
+    };
+    from + rest.iter().position(|x| *x == mark).unwrap_or(rest.len())
 }
 
 // The part of the line after its first '='
@@ -129,136 +141,60 @@ pub fn value_of(line: &[u8]) -> &[u8]
 pub fn word_is(text: &[u8], word: [u8; 10]) -> bool
     ensures { result ≡ word_is text.now word }
 {
-    let mut i = 0;
-    while i < 10 {
-        let w = word[i];
-        if w == b'=' {
-            if text.len() <= i {
-                return true;
-            }
-            return false;
-        }
-        if text.len() <= i {
-            return false;
-        }
-        if text[i] != w {
-            return false;
-        }
-        i += 1;
-    }
-    false
+    let n = find(&word, 0, b'=');
+    n < word.len() && text == &word[..n]
 }
 
 // Whether the line is key=value with the key due.
 pub fn key_is(line: &[u8], key: [u8; 10]) -> bool
     ensures { result ≡ key_is line.now key }
 {
-    let mut i = 0;
-    while i < 10 {
-        if line.len() <= i {
-            return false;
-        }
-        let w = key[i];
-        if line[i] != w {
-            return false;
-        }
-        if w == b'=' {
-            return true;
-        }
-        i += 1;
-    }
-    false
+    let n = find(&key, 0, b'=');
+    n < key.len() && line.starts_with(&key[..n + 1])
 }
 
-fn wide(x: u8) -> u64
-    ensures { result ≡ x }
+// The number n with the digit d behind it, where it is at most high.
+fn with_digit(n: u64, d: u8, high: u64) -> Option<u64>
+    ensures { result ≡ within high (n * 10 + d) }
 {
-    x as u64
-}
-
-fn part_read(n: u64, end: usize) -> Part
-    ensures { result ≡ record { number = Value n; end = end } }
-{
-    Part {
-        number: Number::Value(n),
-        end: end,
-    }
-}
-
-fn part_refused() -> Part
-    ensures { result ≡ record { number = Malformed; end = 0 } }
-{
-    Part {
-        number: Number::Malformed,
-        end: 0,
-    }
-}
-
-// Whether n with the digit d behind it is at most high. Below 10^18 the two make a machine number.
-fn within(n: u64, d: u64, high: u64) -> bool
-    requires { d < 10 }
-    ensures { result ≡ leb (n * 10 + d) high }
-{
-    if n < 1000000000000000000 {
-        return n * 10 + d <= high;
-    }
-    if high < d {
-        return false;
-    }
-    n <= (high - d) / 10
+    let more = n.checked_mul(10)?.checked_add(d as u64)?;
+    if high < more { None } else { Some(more) }
 }
 
 // The digits of the part that begins at `from`, up to its mark or the end.
-fn digits_at(value: &[u8], from: usize, high: u64) -> Part
-    ensures number_value { result.number ≡ digits high 0 (part_bytes value.now from) }
-    ensures by_index { (n : ℕ) → result.number ≡ Value n → result.end ≡ from + seek 58 44 (drop from value.now) }
+fn digits_at(value: &[u8], from: usize, high: u64) -> Option<Part>
+    ensures { result ≡ part_with (from + seek 58 44 (drop from value.now)) (digits high 0 (part_bytes value.now from)) }
 {
-    let mut n: u64 = 0;
-    let mut i = from;
-    while i < value.len() {
+    let mut n = 0;
+    for i in from..value.len() {
         let x = value[i];
-        if x < b'0' {
-            if x == b',' {
-                return part_read(n, i);
-            }
-            return part_refused();
+        if x == b',' || x == b':' {
+            return Some(Part { number: n, end: i });
         }
-        if b'9' < x {
-            if x == b':' {
-                return part_read(n, i);
-            }
-            return part_refused();
+        if x < b'0' || b'9' < x {
+            return None;
         }
-        let d = wide(x - 48);
-        if !within(n, d, high) {
-            return part_refused();
-        }
-        n = n * 10 + d;
-        i += 1;
+        n = with_digit(n, x - b'0', high)?;
     }
-    part_read(n, i)
+    Some(Part {
+        number: n,
+        end: from.max(value.len()),
+    })
 }
 
 // The decimal number of the part that begins at `from`: from low to high, with no leading zero.
-pub fn part_at(value: &[u8], from: usize, low: u64, high: u64) -> Part
-    ensures number_value { result.number ≡ number_in low high (part_bytes value.now from) }
-    ensures by_index { (n : ℕ) → result.number ≡ Value n → result.end ≡ from + seek 58 44 (drop from value.now) }
+pub fn part_at(value: &[u8], from: usize, low: u64, high: u64) -> Option<Part>
+    ensures { result ≡ part_with (from + seek 58 44 (drop from value.now)) (number_in low high (part_bytes value.now from)) }
 {
-    let d = digits_at(value, from, high);
-    let number = d.number;
-    let Number::Value(n) = number else {
-        return part_refused();
-    };
-    if d.end <= from {
-        return part_refused();
+    let part = digits_at(value, from, high)?;
+    if part.end <= from {
+        return None;
     }
-    if from + 1 < d.end {
-        if value[from] == b'0' {
-            return part_refused();
-        }
+    if from + 1 < part.end && value[from] == b'0' {
+        return None;
     }
-    if n < low {
-        return part_refused();
+    if part.number < low {
+        return None;
     }
-    d
+    Some(part)
 }

@@ -1,6 +1,4 @@
 pub mod Values
 pub mod Fits
-pub mod Codes
-pub mod Heads
 pub mod Parts
 pub mod Pairs

@@ -8,27 +8,27 @@ use native.Mathlib.Omega.{arith}
 use borrow.Author.Tests.{le-ltb, lt-ltb, ne_eqb, eq-eqb}
 use lib.ListN.{length, drop, get_or, take, length-drop}
 use lib.Seq.{drop-drop, get_or-drop}
-use Rattle.text.specs.declared.Number.TheVariants.{Value, Malformed}
+use Rattle.std.specs.Prelude.{Some, None, Ok, Err}
+use Rattle.text.specs.declared.TextFault.TheVariants.{BadValue}
 use Rattle.text.specs.declared.Line.{Line}
 use Rattle.text.specs.Text.{seek, number_in}
-use Rattle.text.specs.Rows.{no_line}
 use Rattle.values.specs.Values.{added, last, mark_due, part_next, numbers, rising}
 
 module _ (low high : List ℕ) (parts k p : ℕ) (s : List ℕ) (l : Line) where
-  pub bad : number_in (get_or low p 0) (get_or high p 0) (take (seek 58 44 s) s) ≡ Malformed → numbers low high parts (suc k) p s l ≡ no_line 2
+  pub bad : number_in (get_or low p 0) (get_or high p 0) (take (seek 58 44 s) s) ≡ None → numbers low high parts (suc k) p s l ≡ Err BadValue
   unfolding numbers
   bad e = simp e
 
-  module _ (n : ℕ) (e : number_in (get_or low p 0) (get_or high p 0) (take (seek 58 44 s) s) ≡ Value n) where
-    pub whole : length s ≤ seek 58 44 s → p + 1 ≡ parts → numbers low high parts (suc k) p s l ≡ added l n
+  module _ (n : ℕ) (e : number_in (get_or low p 0) (get_or high p 0) (take (seek 58 44 s) s) ≡ Some n) where
+    pub whole : length s ≤ seek 58 44 s → p + 1 ≡ parts → numbers low high parts (suc k) p s l ≡ Ok (added l n)
     unfolding numbers
     whole h q = simp (e, le-ltb _ _ h, eq-eqb _ _ q)
 
-    pub part : length s ≤ seek 58 44 s → (p + 1 ≡ parts → ⊥) → numbers low high parts (suc k) p s l ≡ no_line 2
+    pub part : length s ≤ seek 58 44 s → (p + 1 ≡ parts → ⊥) → numbers low high parts (suc k) p s l ≡ Err BadValue
     unfolding numbers
     part h q = simp (e, le-ltb _ _ h, ne_eqb _ _ q)
 
-    pub other : seek 58 44 s < length s → (get_or s (seek 58 44 s) 0 ≡ mark_due parts p → ⊥) → numbers low high parts (suc k) p s l ≡ no_line 2
+    pub other : seek 58 44 s < length s → (get_or s (seek 58 44 s) 0 ≡ mark_due parts p → ⊥) → numbers low high parts (suc k) p s l ≡ Err BadValue
     unfolding numbers
     other h q = simp (e, lt-ltb _ _ h, ne_eqb _ _ q)
 

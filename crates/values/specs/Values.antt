@@ -1,21 +1,20 @@
 -- A value is read by its row. 58 is ':', 44 is ','.
-use Rattle.std.specs.Prelude.{◌≡◌, ℕ, zero, suc, ◌+◌, ◌/◌, Bool, true, false, cond, List, ltb, eqb, length, take, drop, get_or, set}
+use Rattle.std.specs.Prelude.{ℕ, zero, suc, ◌+◌, ◌/◌, Bool, true, false, cond, List, ltb, eqb, length, take, drop, get_or, set, Option, Some, None, Result, Ok, Err}
 use Rattle.text.specs.Text.{seek, word_is, number_in}
 use Rattle.text.specs.Rows.{no_line}
-use Rattle.text.specs.declared.Number.{Number}
-use Rattle.text.specs.declared.Number.TheVariants.{Value, Malformed}
 use Rattle.text.specs.declared.Row.{Row}
 use Rattle.text.specs.declared.Line.{Line}
-use Rattle.text.specs.declared.Head.{Head}
+use Rattle.text.specs.declared.TextFault.{TextFault}
+use Rattle.text.specs.declared.TextFault.TheVariants.{BadValue, OfferOrder}
 
 -- one number more
 abbrev pub added : Line → ℕ → Line
-added l n = record { code = l.code; count = l.count + 1; number = set l.number l.count n }
+added l n = record { count = l.count + 1; number = set l.number l.count n }
 
 -- 01, refusal 2: a malformed number or one out of range
-abbrev pub given : Number → (ℕ → Line) → Line
-given (Value n) f = f n
-given Malformed f = no_line 2
+abbrev pub given : Option ℕ → (ℕ → Result Line TextFault) → Result Line TextFault
+given (Some n) f = f n
+given None f = Err BadValue
 
 -- whether part p is the last of its group; the part after it; the mark due after it
 abbrev pub last : ℕ → ℕ → Bool
@@ -29,15 +28,15 @@ mark_due parts p = cond (last parts p) 44 58
 
 -- 01, Energies and sheet: "pairs quantity:price joined by commas"; Hour record: "minutes:kind:cause:capability joined by commas".
 -- The numbers of a value from part p of a group on, of which `left` may still come
-unfoldable pub numbers : List ℕ → List ℕ → ℕ → ℕ → ℕ → List ℕ → Line → Line
-numbers low high parts zero p s l = no_line 2
+unfoldable pub numbers : List ℕ → List ℕ → ℕ → ℕ → ℕ → List ℕ → Line → Result Line TextFault
+numbers low high parts zero p s l = Err BadValue
 numbers low high parts (suc left) p s l =
     given (number_in (get_or low p 0) (get_or high p 0) (take (seek 58 44 s) s)) (λ n.
     cond (ltb (seek 58 44 s) (length s))
     (cond (eqb (get_or s (seek 58 44 s) 0) (mark_due parts p))
     (numbers low high parts left (part_next parts p) (drop (suc (seek 58 44 s)) s) (added l n))
-    (no_line 2))
-    (cond (last parts p) (added l n) (no_line 2)))
+    (Err BadValue))
+    (cond (last parts p) (Ok (added l n)) (Err BadValue)))
 
 -- 01, Energies and sheet: of an offer's pairs the first numbers are "strictly rising", the second "never falling";
 -- here the pairs from a place on, after a pair of q and p
@@ -49,21 +48,16 @@ rising l at (suc left) q p =
     false
 
 -- 01, refusal 3: offer order broken
-abbrev pub ordered : Row → Line → Line
-ordered row l = cond (eqb row.order 1) (cond (rising l.number 0 (l.count / 2) 0 0) l (no_line 3)) l
+abbrev pub ordered : Row → Line → Result Line TextFault
+ordered row l = cond row.order (cond (rising l.number 0 (l.count / 2) 0 0) (Ok l) (Err OfferOrder)) (Ok l)
 
-abbrev pub checked : Row → Line → Line
-checked row l = cond (eqb l.code 0) (ordered row l) l
+abbrev pub checked : Row → Result Line TextFault → Result Line TextFault
+checked row (Ok l) = ordered row l
+checked row (Err f) = Err f
 
--- a value by its row: a word, blank, or numbers in their order; code 2 or 3 where it is refused
-unfoldable pub value_of : Row → List ℕ → Line
+-- a value by its row: a word, blank, or numbers in their order
+unfoldable pub value_of : Row → List ℕ → Result Line TextFault
 value_of row s =
-    cond (eqb row.parts 0) (cond (word_is s row.word) (no_line 0) (no_line 2))
-    (cond (eqb (length s) 0) (cond (eqb row.blank 1) (no_line 0) (no_line 2))
-    (checked row (numbers row.low row.high row.parts row.most 0 s (no_line 0))))
-
--- a line as its head and the list of its numbers, which says nothing where the line is refused
-pub record Held (h : Head) (number : List ℕ) (l : Line) : Type 0 where
-  pub code_is : h.code ≡ l.code
-  pub count_is : l.code ≡ 0 → h.count ≡ l.count
-  pub number_is : l.code ≡ 0 → number ≡ l.number
+    cond (eqb row.parts 0) (cond (word_is s row.word) (Ok no_line) (Err BadValue))
+    (cond (eqb (length s) 0) (cond row.blank (Ok no_line) (Err BadValue))
+    (checked row (numbers row.low row.high row.parts row.most 0 s no_line)))

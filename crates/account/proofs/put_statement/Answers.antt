@@ -42,7 +42,7 @@ returns-in-Refused-clause-result_after c =
     let w = c.put_refusal.ensures.result_after in record {
       same_buffer = w.same_buffer;
       bytes_after = w.bytes_after
-          ∙ (ap (λ (n : ℕ). written o (refusal_line n)) c.text_number.ensures
+          ∙ (ap (λ (n : ℕ). written o (refusal_line n)) c.number.ensures
           ∙ (ap (λ (a : ReadAnswer). written o (lines_by g.text.now r.sheet a)) (sym c.in-Refused.is)
           ∙ ap (λ (x : SheetRead). written o (lines_by g.text.now x.sheet x.answer)) c.read_sheet-read.ensures));
     }

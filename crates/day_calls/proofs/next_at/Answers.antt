@@ -3,7 +3,9 @@
 use Prim.Native.Nat.{◌+◌}
 use mathlib.Core.Path.{sym, ap, ◌∙◌}
 use Rattle.text.specs.declared.Row.{Row}
+use Rattle.std.specs.Prelude.{Result}
 use Rattle.text.specs.declared.Line.{Line}
+use Rattle.text.specs.declared.TextFault.{TextFault}
 use Rattle.values.specs.Values.{value_of}
 use Rattle.day_calls.specs.declared.Next.TheVariants.{Settle}
 use Rattle.day_calls.specs.DayCalls.{take_row, take_of}
@@ -20,8 +22,8 @@ pub returns-then-key_is : goal.returns-then-key_is
 returns-then-key_is c =
     let v = c.value_of.result in
     c.take_of.ensures
-    ∙ (ap (λ (l : Line). take_of l (c.find-e.result + 1))
-    (c.read_value-l.ensures
+    ∙ (ap (λ (l : Result Line TextFault). take_of l (c.find-e.result + 1))
+    (c.read_value.ensures
     ∙ (ap (λ (r : Row). value_of r v.now) c.take_row.ensures ∙ ap (value_of take_row) c.value_of.ensures))
     ∙ take_line c.args.text.now c.args.at c.if-text-at.false c.find-e.result c.find-e.ensures c.if-text-e.false (sym c.key_is.ensures ∙ c.if-key_is.true))
 

@@ -11,16 +11,15 @@ pub store_hour-requires : goal.store_hour-requires
 store_hour-requires c =
     void_ready c.requires _ _ _ _
     c.hour_index-h.ensures.value
-    c.decide_void-d.ensures
+    c.decide_void-decided.ensures
 
 pub returns-in-Commitment : goal.returns-in-Commitment
 returns-in-Commitment c =
     rw c.in-Commitment.is
-    (rw c.changed.ensures
     (commitment_carried _ _ (table c.args.commitment.now c.args.mark.now c.args.energy.now c.args.amounts.now) _ _ _ _ _ _
     c.requires.long _ _
-    c.change_of-change.ensures
-    c.change.ensures))
+    c.from-change.ensures
+    c.change.ensures)
 
 pub returns-in-Record : goal.returns-in-Record
 returns-in-Record c =
@@ -32,6 +31,6 @@ returns-in-Void c =
     rw c.in-Void.is
     (void_carried c.requires _ _ _ _ _ _
     c.hour_index-h.ensures.value
-    c.decide_void-d.ensures
+    c.decide_void-decided.ensures
     (c.store_hour.ensures.by_index _)
     c.store_hour.ensures.value)

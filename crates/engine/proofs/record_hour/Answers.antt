@@ -5,8 +5,8 @@ use Rattle.engine.proofs.HourReady.{hour_at, record_due, record_ready}
 use Rattle.engine.proofs.HourDecided.{record_carried}
 use Rattle.engine.proofs.record_hour.Goals as goal
 
-pub decide_record-d-requires : goal.decide_record-d-requires
-decide_record-d-requires c =
+pub decide_record-decided-requires : goal.decide_record-decided-requires
+decide_record-decided-requires c =
     record_due
     (hour_at c.read_record-reading.ensures
     c.hour_index-h.ensures.value
@@ -24,7 +24,7 @@ store_hour-requires c =
     c.offers_in.ensures
     c.hour_sheet-day.ensures)
     c.requires _ _ _
-    c.decide_record-d.ensures
+    c.decide_record-decided.ensures
 
 pub returns : goal.returns
 returns c =
@@ -35,6 +35,6 @@ returns c =
     c.held_in-held.ensures
     c.offers_in.ensures
     c.hour_sheet-day.ensures) _
-    c.decide_record-d.ensures
+    c.decide_record-decided.ensures
     (c.store_hour.ensures.by_index _)
     c.store_hour.ensures.value

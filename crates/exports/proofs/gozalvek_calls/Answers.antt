@@ -10,7 +10,7 @@ carried_out-ran-requires c = omega (arith, c.length_of-n.ensures)
 pub returns-in-Refused : goal.returns-in-Refused
 returns-in-Refused c =
     let a = c.args in
-    called_refused a.sheet.now a.places a.calls.now a.text.now a.answers.now a.held.now a.amounts.now a.postings.now _ c.read_sheet-read.ensures _ _ _ c.in-Refused.is c.text_number.ensures c.text_line.ensures
+    called_refused a.sheet.now a.places a.calls.now a.text.now a.answers.now a.held.now a.amounts.now a.postings.now _ c.read_sheet-read.ensures _ _ _ c.in-Refused.is c.number.ensures refl
 
 pub returns-in-Read : goal.returns-in-Read
 returns-in-Read c =

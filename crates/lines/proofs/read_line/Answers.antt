@@ -1,87 +1,60 @@
--- The line is cut out of the text at its LF and its value out of the line, so each return is a case of the definition; what the cursor and
--- the cells then show are the laws of Shown. The cells behind the line stay 0 while the text is good.
+-- The line at the place is taken in and kept, or its fault ends the reading.
 -- Assumes nothing.
 use Prim.Native.Nat.{ℕ, ◌+◌}
 use mathlib.Core.Path.{◌≡◌, ap, sym, ◌∙◌, subst}
-use mathlib.Core.Bool.{true, false}
+use mathlib.Core.List.{List, [], ◌∷◌, ◌++◌}
 use native.Mathlib.Omega.{arith}
+use lib.ListN.{length}
+use Rattle.std.specs.Prelude.{Ok, Err}
 use Rattle.text.specs.declared.Line.{Line}
-use Rattle.values.specs.Values.{value_of}
-use Rattle.lines.specs.Lines.{line_at, place_after, read_line}
-use Rattle.lines.specs.Cells.{Placed, Shows}
-use Rattle.lines.proofs.Reading.{unended, by_key}
-use Rattle.lines.proofs.Storage.{blank_next}
-use Rattle.lines.proofs.Shown.{shown_refused, shown_bad, shown_placed_bad, shown_good}
-use borrow.Author.Tests.{not-true, not-false}
-use Rattle.lines.proofs.read_line.Goals.{After-value_kept-code}
+use Rattle.lines.specs.declared.Cursor.{Cursor}
+use Rattle.lines.specs.Lines.{line_at, place_after, Reading}
+use Rattle.lines.specs.Cells.{Kept, cursor_of}
+use Rattle.lines.proofs.Reading.{kept_on, kept_next, same_ok}
+use Rattle.lines.proofs.Cursors.{ending_ok, ending_err, read_ok, cursor_next, cursor_refused, none_next}
+use Rattle.lines.proofs.read_line.Goals.{In-Ok, In-Err}
+use Rattle.lines.proofs.read_line.Goals.{then-c-kept, else-c-kept}
 use Rattle.lines.proofs.read_line.Goals as goal
 
-pub returns-then-c-ne0 : goal.returns-then-c-ne0
-returns-then-c-ne0 c =
+-- the line at the reading's place
+read : (c : In-Ok) (s : Reading) → c.args.c ≡ cursor_of s
+    → (line_at c.args.text.now s.at c.args.row ≡ Ok c.in-Ok.line) × (c.in-Ok.at ≡ place_after c.args.text.now s.at) × (c.args.c.lines ≡ length s.lines)
+read c s e =
     let g = c.args in
-    record {
-      shows = λ s shown. shown_refused g.text.now g.row g.cells.now g.c s shown c.if-c-ne0.true;
-      lines_bound_2 = omega arith;
-      blank_2 = c.requires.blank;
-    }
+    let at : g.c.at ≡ s.at = ap (λ (x : Cursor). x.at) e in
+    let r = ending_ok (place_after g.text.now g.c.at) (line_at g.text.now g.c.at g.row) c.in-Ok.line c.in-Ok.at (sym c.in-Ok.is ∙ c.line_at.ensures) in
+    (rw at at r.0, rw at at r.1, ap (λ (x : Cursor). x.lines) e)
 
-pub returns-then-text-e : goal.returns-then-text-e
-returns-then-text-e c =
+refused : (c : In-Err) (s : Reading) → c.args.c ≡ cursor_of s → line_at c.args.text.now s.at c.args.row ≡ Err c.in-Err.fault
+refused c s e =
     let g = c.args in
-    let f = c.find-e in
-    let ends = unended g.text.now g.c.at g.row f.result f.ensures c.if-text-e.true in
-    rw c.refused.ensures (record {
-      shows = λ s shown. shown_bad g.text.now g.row g.cells.now g.c s shown c.if-c-ne0.false g.cells.now 4 shown.kept (ap (λ (l : Line). l.code) ends) (λ z. omega arith);
-      lines_bound_2 = omega arith;
-      blank_2 = λ z. omega arith;
-    })
+    let at : g.c.at ≡ s.at = ap (λ (x : Cursor). x.at) e in
+    rw at at (ending_err (place_after g.text.now g.c.at) (line_at g.text.now g.c.at g.row) c.in-Err.fault (sym c.in-Err.is ∙ c.line_at.ensures))
 
-pub returns-then-not-key_is : goal.returns-then-not-key_is
-returns-then-not-key_is c =
-    let g = c.args in
-    let f = c.find-e in
-    let other = by_key g.text.now g.c.at g.row f.result f.ensures c.if-text-e.false false (sym c.key_is.ensures ∙ not-true _ c.if-not-key_is.true-raw) in
-    rw c.refused-then-not-key_is.ensures (record {
-      shows = λ s shown. shown_bad g.text.now g.row g.cells.now g.c s shown c.if-c-ne0.false g.cells.now 1 shown.kept (ap (λ (l : Line). l.code) other) (λ z. omega arith);
-      lines_bound_2 = omega arith;
-      blank_2 = λ z. omega arith;
-    })
+pub returns-after-c-kept-clause-cursor : goal.returns-after-c-kept-clause-cursor
+returns-after-c-kept-clause-cursor c =
+    λ s e. let r = read (goal.at.returns-after-c-kept-clause-cursor c).In-Ok s e in
+    cursor_next c.args.text.now c.args.row s c.in-Ok.line c.in-Ok.at (c.args.c.lines + 1) r.0 r.1 (ap (λ (n : ℕ). n + 1) r.2)
 
-pub value_kept-code-requires : goal.value_kept-code-requires
-value_kept-code-requires c = record { k_bound = omega (arith, c.requires.lines_bound); blank = c.requires.blank c.if-c-ne0.false }
+pub returns-after-c-kept-clause-kept : goal.returns-after-c-kept-clause-kept
+returns-after-c-kept-clause-kept c =
+    λ s t e kept h.
+    let r = read (goal.at.returns-after-c-kept-clause-kept c).In-Ok s e in
+    let l = c.in-Ok.line in
+    let is : t.lines ≡ s.lines ++ (l ∷ []) = ap (λ (x : Reading). x.lines) (same_ok _ _ (sym h ∙ read_ok c.args.text.now c.args.row s l r.0)) in
+    let n : length s.lines ≡ c.args.c.lines = sym r.2 in
+    let all : Kept c.if-c-kept.kept (s.lines ++ (l ∷ [])) =
+    elim c.if-c-kept.branch [
+      | then-c-kept w ↦ rw (w.kept-is) (rw n at (kept_next c.args.kept.now s.lines l kept (omega (arith, n, w.if-c-kept.true))))
+      | else-c-kept w ↦ rw (w.kept-is) (kept_on c.args.kept.now s.lines l kept (omega (arith, n, w.if-c-kept.false)))
+    ] in
+    subst (λ (x : List Line). Kept c.if-c-kept.kept x) (sym is) all
 
--- the value that is read into its cells is that of the line at the place
-read : (c : After-value_kept-code) →
-    let g = c.args in
-    Placed g.cells.now c.value_kept-code.new.cells g.c.lines c.value_kept-code.result (line_at g.text.now g.c.at g.row)
-read c =
-    let g = c.args in
-    let f = c.find-e in
-    subst (λ (l : Line). Placed g.cells.now c.value_kept-code.new.cells g.c.lines c.value_kept-code.result l)
-    (ap (value_of g.row) c.value_of.ensures
-    ∙ by_key g.text.now g.c.at g.row f.result f.ensures c.if-text-e.false true (sym c.key_is.ensures ∙ not-false _ c.if-not-key_is.false-raw))
-    c.value_kept-code.ensures
+pub returns-in-Err-clause-cursor : goal.returns-in-Err-clause-cursor
+returns-in-Err-clause-cursor c =
+    λ s e. cursor_refused c.args.text.now c.args.row s c.in-Err.fault (c.args.c.lines + 1) (refused (goal.at.returns-in-Err-clause-cursor c).In-Err s e)
+    (ap (λ (x : Cursor). x.lines + 1) e)
 
-pub returns-then-code-ne0 : goal.returns-then-code-ne0
-returns-then-code-ne0 c =
-    let g = c.args in
-    let r = c.value_kept-code in
-    rw c.refused-then-code-ne0.ensures (record {
-      shows = λ s shown. shown_placed_bad g.text.now g.row g.cells.now g.c s shown c.if-c-ne0.false r.new.cells r.result (read (goal.at.returns-then-code-ne0 c).After-value_kept-code) r.auto.cells c.if-code-ne0.true;
-      lines_bound_2 = omega arith;
-      blank_2 = λ z. absurd (c.if-code-ne0.true z);
-    })
-
-pub returns : goal.returns
-returns c =
-    let g = c.args in
-    let r = c.value_kept-code in
-    let good = c.if-c-ne0.false in
-    let next : c.find-e.result + 1 ≡ place_after g.text.now g.c.at = ap (λ (n : ℕ). n + 1) c.find-e.ensures in
-    record {
-      shows = λ s shown.
-          subst (λ (n : ℕ). Shows r.new.cells (record { refusal = 0; at = n; lines = g.c.lines + 1 }) (read_line g.text.now g.row s)) (sym next)
-          (shown_good g.text.now g.row g.cells.now g.c s shown good r.new.cells r.result (read (goal.at.returns c).After-value_kept-code) r.auto.cells c.if-code-ne0.false);
-      lines_bound_2 = omega arith;
-      blank_2 = λ z. blank_next g.cells.now r.new.cells g.c.lines r.result (line_at g.text.now g.c.at g.row) (read (goal.at.returns c).After-value_kept-code) r.auto.cells (c.requires.blank good);
-    }
+pub returns-in-Err-clause-kept : goal.returns-in-Err-clause-kept
+returns-in-Err-clause-kept c =
+    λ s t e kept h. absurd (none_next c.args.text.now c.args.row s c.in-Err.fault t (refused (goal.at.returns-in-Err-clause-kept c).In-Err s e) h)

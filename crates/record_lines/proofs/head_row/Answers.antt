@@ -7,14 +7,14 @@ use lib.ListN.{get_or}
 use Rattle.record_lines.specs.Rows.{head_rows, end_row}
 use Rattle.record_lines.proofs.head_row.Goals as goal
 
-pub returns-then-k-eq0 : goal.returns-then-k-eq0
+pub returns-in-0 : goal.returns-in-0
 unfolding head_rows
-returns-then-k-eq0 c = c.number_row.ensures ∙ ap (λ (n : ℕ). get_or head_rows n end_row) (sym c.if-k-eq0.true)
+returns-in-0 c = c.number_row.ensures ∙ ap (λ (n : ℕ). get_or head_rows n end_row) (sym c.in-0.is)
 
-pub returns-then-k-eq1 : goal.returns-then-k-eq1
+pub returns-in-1 : goal.returns-in-1
 unfolding head_rows
-returns-then-k-eq1 c = c.blank_row.ensures ∙ ap (λ (n : ℕ). get_or head_rows n end_row) (sym c.if-k-eq1.true)
+returns-in-1 c = c.blank_row.ensures ∙ ap (λ (n : ℕ). get_or head_rows n end_row) (sym c.in-1.is)
 
-pub returns : goal.returns
+pub returns-in_default : goal.returns-in_default
 unfolding head_rows
-returns c = let e : 2 ≡ c.args.k = omega (arith, c.if-k-eq1.false, c.if-k-eq0.false, c.requires) in c.blank_row-2.ensures ∙ ap (λ (n : ℕ). get_or head_rows n end_row) e
+returns-in_default c = let e : 2 ≡ c.args.k = omega (arith, c.in_default, c.requires) in c.blank_row-in_default.ensures ∙ ap (λ (n : ℕ). get_or head_rows n end_row) e

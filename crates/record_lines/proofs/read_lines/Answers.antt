@@ -1,49 +1,59 @@
--- After i turns the cursor and the cells show i lines; the row of the next is the one due.
+-- After i turns the cursor and what is kept show i lines; the row of the next is the one due.
 -- Assumes nothing.
-use Prim.Native.Nat.{ℕ, ◌+◌, ◌*◌}
-use mathlib.Core.Path.{◌≡◌, refl, ap, ◌∙◌, subst}
+use Prim.Native.Nat.{◌+◌, ◌*◌}
+use mathlib.Core.Path.{◌≡◌, refl, ap, sym, ◌∙◌, subst}
 use native.Mathlib.Omega.{arith}
-use Rattle.text.specs.declared.Row.{Row}
+use Rattle.std.specs.Prelude.{Result, Ok, Err}
+use Rattle.std.proofs.lemmas.Result.{err_from_is_err_and, IfOk-at_ok}
 use Rattle.lines.specs.declared.Cursor.{Cursor}
-use Rattle.lines.specs.Lines.{begin, read_line, read_by}
-use Rattle.lines.specs.Cells.{Shows}
-use Rattle.lines.proofs.Due.{by_next}
+use Rattle.lines.specs.Lines.{Reading, begin, read_by}
+use Rattle.lines.specs.Cells.{Kept, cursors}
+use Rattle.lines.proofs.Reading.{not_ok, same_ok}
+use Rattle.lines.proofs.Shown.{none_kept, Shown, shown_first, shown_next, shown_refused}
 use Rattle.record_lines.specs.Rows.{row_at, due_row, read_lines}
-use Rattle.record_lines.proofs.Facts.{nothing_read}
+use Rattle.record_lines.proofs.read_lines.Goals.{After-read_line}
 use Rattle.record_lines.proofs.read_lines.Goals as goal
 
 pub loop-i-init : goal.loop-i-init
-unfolding read_by
 loop-i-init c =
-    let none = ap (λ (x : Cursor). x.lines) c.start-c.ensures in (
-      omega arith,
-      omega (arith, none),
-      refl,
-      nothing_read c.args.cells.now c.start-c.result c.start-c.ensures,
-      λ z. rw none c.requires.blank,
-    )
+    let t = c.args.text.now in
+    (ap (λ (x : Cursor). x.lines) c.start-c.ensures, refl, shown_first t (due_row c.args.n) begin c.start-c.result c.args.kept.now c.start-c.ensures (none_kept c.args.kept.now))
 
-pub read_line-c-requires : goal.read_line-c-requires
-read_line-c-requires c =
-    let l = c.loop-i in record { lines_bound = omega (arith, l.invariant.0, l.invariant.1, c.loop-i-test.true, c.requires.n_bound); blank = l.invariant.4 }
+-- the row is the one that is due after the lines shown
+row_is : (c : After-read_line) → c.row_at.result ≡ due_row c.args.n c.loop-i.invariant.2.reading.lines
+row_is c = c.row_at.ensures ∙ ap (λ (x : Cursor). row_at c.args.n x.lines) c.loop-i.invariant.2.cursor
+
+pub returns-in_err-c : goal.returns-in_err-c
+unfolding read_lines
+returns-in_err-c c =
+    let g = c.args in
+    let l = c.loop-i in
+    let p = err_from_is_err_and c.from_residual.result c.from_residual.ensures.1 in
+    let bad : read_by g.text.now (due_row g.n) (3 + 9 * g.n + 1) begin ≡ Err c.in_err-c.field-0.0 =
+    shown_refused g.text.now (due_row g.n) begin l._i l.c l.kept l.invariant.2 c.row_at.result (row_is (goal.at.returns-in_err-c c).After-read_line)
+    c.read_line.result c.read_line.ensures.cursor c.in_err-c.field-0.0 c.in_err-c.was (3 + 9 * g.n + 1) c.loop-i-test.true in
+    rw (p.1, p.2) (record { cursor = ap cursors (sym bad); kept = λ s h. absurd (not_ok _ _ (sym bad ∙ h)); lines_bound = tt })
 
 pub loop-i-preserved : goal.loop-i-preserved
 loop-i-preserved c =
-    let l = c.loop-i in
     let g = c.args in
-    let r = c.read_line-c in
-    let t = read_by g.text.now (due_row g.n) l.i begin in
-    let row : c.row_at.result ≡ due_row g.n t.lines = c.row_at.ensures ∙ ap (row_at g.n) l.invariant.3.lines_is in (
-      omega (arith, l.invariant.0, c.loop-i-test.true),
-      omega (arith, l.invariant.1, r.ensures.lines_bound_2),
-      r.auto.cells ∙ l.invariant.2,
-      rw by_next (subst (λ (x : Row). Shows r.new.cells r.result (read_line g.text.now x t)) row (r.ensures.shows t l.invariant.3)),
-      r.ensures.blank_2,
+    let l = c.loop-i in
+    let r = c.read_line in (
+      omega (arith, l.invariant.0, IfOk-at_ok (λ (d : Cursor). d.lines ≡ l.c.lines + 1) c.in_ok-c.was r.ensures.lines_bound_2),
+      r.auto.kept ∙ l.invariant.1,
+      shown_next g.text.now (due_row g.n) begin l._i l.c l.kept l.invariant.2 c.row_at.result (row_is (goal.at.loop-i-preserved c).After-read_line)
+          r.result r.ensures.cursor r.new.kept r.ensures.kept c.in_ok-c.c c.in_ok-c.was,
     )
 
 pub returns : goal.returns
 unfolding read_lines
 returns c =
-    let l = c.loop-i in
     let g = c.args in
-    let all : l.i ≡ 3 + 9 * g.n + 1 = omega (arith, l.invariant.0, c.loop-i-test.false) in record { shows = subst (λ (n : ℕ). Shows l.cells l.c (read_by g.text.now (due_row g.n) n begin)) all l.invariant.3; lines_bound = omega (arith, l.invariant.1, c.requires.n_bound) }
+    let l = c.loop-i in
+    let all : l._i ≡ 3 + 9 * g.n + 1 = omega arith in
+    let x : Shown g.text.now (due_row g.n) (3 + 9 * g.n + 1) begin l.c l.kept = rw all at l.invariant.2 in
+    record {
+      cursor = ap {B = Result Cursor _} (λ (d : Cursor). Ok d) x.cursor ∙ sym (ap cursors x.read);
+      kept = λ s h. subst (λ (t : Reading). Kept l.kept t.lines) (same_ok _ _ (sym x.read ∙ h)) x.holds;
+      lines_bound = omega (arith, l.invariant.0, c.requires.n_bound);
+    }

@@ -12,6 +12,6 @@ pub returns-then-k-n : goal.returns-then-k-n
 unfolding row_at
 returns-then-k-n c = simp (le-ltb _ _ c.if-k-lt3.false, lt-ltb _ _ c.if-k-n.true) c.unit_row.ensures
 
-pub returns : goal.returns
+pub returns-else-k-n : goal.returns-else-k-n
 unfolding row_at
-returns c = simp (le-ltb _ _ c.if-k-lt3.false, le-ltb _ _ c.if-k-n.false) c.end_row.ensures
+returns-else-k-n c = simp (le-ltb _ _ c.if-k-lt3.false, le-ltb _ _ c.if-k-n.false) c.end_row.ensures

@@ -9,32 +9,29 @@ use Rattle.sheet_lines.specs.Rows.{head_rows, end_row}
 use Rattle.sheet_lines.proofs.Table.{cpf_row}
 use Rattle.sheet_lines.proofs.head_row.Goals as goal
 
-pub returns-then-k-eq0 : goal.returns-then-k-eq0
+pub returns-in-0 : goal.returns-in-0
 unfolding head_rows
-returns-then-k-eq0 c = c.number_row.ensures ∙ ap (λ (n : ℕ). get_or (head_rows c.args.month) n end_row) (sym c.if-k-eq0.true)
+returns-in-0 c = c.number_row.ensures ∙ ap (λ (n : ℕ). get_or (head_rows c.args.month) n end_row) (sym c.in-0.is)
 
-pub returns-then-k-eq1 : goal.returns-then-k-eq1
+pub returns-in-1 : goal.returns-in-1
 unfolding head_rows
-returns-then-k-eq1 c =
-    (c.number_row-then-k-eq1.ensures ∙ ap (λ (n : ℕ). number_row (word "day") 1 n) c.last_day.ensures)
-    ∙ ap (λ (n : ℕ). get_or (head_rows c.args.month) n end_row) (sym c.if-k-eq1.true)
+returns-in-1 c = (c.number_row-in-1.ensures ∙ ap (λ (n : ℕ). number_row (word "day") 1 n) c.last_day.ensures) ∙ ap (λ (n : ℕ). get_or (head_rows c.args.month) n end_row) (sym c.in-1.is)
 
-pub returns-then-k-eq2 : goal.returns-then-k-eq2
+pub returns-in-2 : goal.returns-in-2
 unfolding head_rows
-returns-then-k-eq2 c = c.number_row-then-k-eq2.ensures ∙ ap (λ (n : ℕ). get_or (head_rows c.args.month) n end_row) (sym c.if-k-eq2.true)
+returns-in-2 c = c.number_row-in-2.ensures ∙ ap (λ (n : ℕ). get_or (head_rows c.args.month) n end_row) (sym c.in-2.is)
 
-pub returns-then-k-eq3 : goal.returns-then-k-eq3
+pub returns-in-3 : goal.returns-in-3
 unfolding head_rows
-returns-then-k-eq3 c = c.number_row-then-k-eq3.ensures ∙ ap (λ (n : ℕ). get_or (head_rows c.args.month) n end_row) (sym c.if-k-eq3.true)
+returns-in-3 c = c.number_row-in-3.ensures ∙ ap (λ (n : ℕ). get_or (head_rows c.args.month) n end_row) (sym c.in-3.is)
 
-pub returns-then-k-eq4 : goal.returns-then-k-eq4
+pub returns-in-4 : goal.returns-in-4
 unfolding head_rows
-returns-then-k-eq4 c = c.number_row-then-k-eq4.ensures ∙ ap (λ (n : ℕ). get_or (head_rows c.args.month) n end_row) (sym c.if-k-eq4.true)
+returns-in-4 c = c.number_row-in-4.ensures ∙ ap (λ (n : ℕ). get_or (head_rows c.args.month) n end_row) (sym c.in-4.is)
 
-pub returns-then-k-eq29 : goal.returns-then-k-eq29
+pub returns-in-29 : goal.returns-in-29
 unfolding head_rows
-returns-then-k-eq29 c = c.number_row-then-k-eq29.ensures ∙ ap (λ (n : ℕ). get_or (head_rows c.args.month) n end_row) (sym c.if-k-eq29.true)
+returns-in-29 c = c.number_row-in-29.ensures ∙ ap (λ (n : ℕ). get_or (head_rows c.args.month) n end_row) (sym c.in-29.is)
 
-pub returns : goal.returns
-returns c =
-    c.number_row-2.ensures ∙ sym (cpf_row c.args.month c.args.k (omega (arith, c.if-k-eq29.false, c.if-k-eq4.false, c.if-k-eq3.false, c.if-k-eq2.false, c.if-k-eq1.false, c.if-k-eq0.false)) (omega (arith, c.if-k-eq29.false, c.requires)))
+pub returns-in_default : goal.returns-in_default
+returns-in_default c = c.number_row-in_default.ensures ∙ sym (cpf_row c.args.month c.args.k (omega (arith, c.in_default)) (omega (arith, c.in_default, c.requires)))

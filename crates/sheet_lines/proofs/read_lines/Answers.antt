@@ -1,40 +1,66 @@
 -- The head, and then as many lines as the units it names have.
 -- Assumes nothing.
-use Prim.Native.Nat.{◌≤◌}
-use mathlib.Core.Path.{ap}
+use Prim.Native.Nat.{ℕ, ◌+◌, ◌*◌}
+use mathlib.Core.Path.{◌≡◌, refl, ap, sym, ◌∙◌}
 use native.Mathlib.Omega.{arith}
-use lib.ListN.{length}
+use lib.Count.{ones}
+use Rattle.std.specs.Prelude.{List, Ok, Err}
+use Rattle.std.proofs.lemmas.Result.{err_from_is_err_and, IfOk-at_ok, IfOk-weaker}
+use Rattle.text.specs.declared.Line.{Line}
 use Rattle.lines.specs.declared.Cursor.{Cursor}
-use Rattle.lines.specs.Lines.{begin, read_by}
-use Rattle.lines.specs.Cells.{Shows}
-use Rattle.sheet_lines.specs.Rows.{due_row}
-use Rattle.sheet_lines.proofs.Whole.{nothing_read, head_refused, head_good}
-use Rattle.sheet_lines.proofs.read_lines.Goals.{After-read_more-head}
+use Rattle.lines.specs.declared.TextRefusal.{TextRefusal}
+use Rattle.lines.specs.Lines.{Reading, begin, read_by, number_of}
+use Rattle.lines.specs.Cells.{Kept, cursors}
+use Rattle.lines.proofs.Reading.{not_ok}
+use Rattle.lines.proofs.Cursors.{Read, cursors_ok, cursors_err}
+use Rattle.lines.proofs.Due.{onward}
+use Rattle.lines.proofs.Shown.{none_kept}
+use Rattle.sheet_lines.specs.Rows.{due_row, units_read, read_lines}
+use Rattle.sheet_lines.proofs.read_lines.Goals.{After-read_more, In_ok-head}
 use Rattle.sheet_lines.proofs.read_lines.Goals as goal
 
--- the head is shown, has at most 30 lines, and leaves the cells as many as they were
-head : (c : After-read_more-head) → Shows c.read_more-head.new.cells c.read_more-head.result (read_by c.args.text.now due_row 30 begin)
-head c = c.read_more-head.ensures.shows begin (nothing_read c.args.cells.now c.start.result c.start.ensures)
+refused_head : (text : List ℕ) (r : TextRefusal) → read_by text due_row 30 begin ≡ Err r → read_lines text ≡ Err r
+unfolding read_lines
+refused_head text r e = rw e refl
 
-few : (c : After-read_more-head) → c.read_more-head.result.lines ≤ 30
-few c = omega (arith, c.read_more-head.ensures.lines_bound, ap (λ (x : Cursor). x.lines) c.start.ensures)
+good_head : (text : List ℕ) (h : Reading) → read_by text due_row 30 begin ≡ Ok h → (n : ℕ) → n ≡ units_read h.lines
+    → read_by text due_row (27 * n + 1) h ≡ read_lines text
+unfolding read_lines
+good_head text h e n q = rw (e, q) refl
 
-room : (c : After-read_more-head) → 750 ≤ length c.read_more-head.new.cells
-room c = omega (arith, c.read_more-head.auto.cells, c.requires.in_bounds)
+bad : (c : After-read_more) (r : TextRefusal) → c.read_more.result ≡ Err r → read_lines c.args.text.now ≡ Err r
+bad c r e =
+    refused_head c.args.text.now r
+    (cursors_err (read_by c.args.text.now due_row 30 begin) r (sym e ∙ c.read_more.ensures.cursor begin c.start.ensures (none_kept c.args.kept.now)))
 
-pub read_more-head-requires : goal.read_more-head-requires
-read_more-head-requires c = record { n_bound = (omega arith, omega (arith, ap (λ (x : Cursor). x.lines) c.start.ensures), c.requires.in_bounds); blank = λ z. rw (ap (λ (x : Cursor). x.lines) c.start.ensures) c.requires.blank }
+pub returns-in_err-head : goal.returns-in_err-head
+returns-in_err-head c =
+    let p = err_from_is_err_and c.from_residual.result c.from_residual.ensures.1 in
+    let e = bad (goal.at.returns-in_err-head c).After-read_more c.in_err-head.field-0.0 c.in_err-head.was in
+    rw (p.1, p.2) (record { cursor = ap cursors (sym e); kept = λ s h. absurd (not_ok _ _ (sym e ∙ h)); lines_bound = tt })
 
-pub returns-then-head-ne0 : goal.returns-then-head-ne0
-returns-then-head-ne0 c = record { shows = head_refused c.args.text.now c.read_more-head.new.cells c.read_more-head.result (head (goal.at.returns-then-head-ne0 c).After-read_more-head) c.if-head-ne0.true; lines_bound = omega (arith, few (goal.at.returns-then-head-ne0 c).After-read_more-head) }
+-- the head, and what is kept of it
+head : (c : In_ok-head) → Read (read_by c.args.text.now due_row 30 begin) c.in_ok-head.head
+head c = cursors_ok _ c.in_ok-head.head (sym c.in_ok-head.was ∙ c.read_more.ensures.cursor begin c.start.ensures (none_kept c.args.kept.now))
 
-pub read_more-requires : goal.read_more-requires
-read_more-requires c = record { n_bound = (omega (arith, c.units_read.ensures.upper_bound), omega (arith, few (goal.at.read_more-requires c).After-read_more-head), room (goal.at.read_more-requires c).After-read_more-head); blank = c.read_more-head.ensures.blank_2 }
+held : (c : In_ok-head) (h : Read (read_by c.args.text.now due_row 30 begin) c.in_ok-head.head) → Kept c.read_more.new.kept h.reading.lines
+held c h = c.read_more.ensures.kept begin h.reading c.start.ensures (none_kept c.args.kept.now) h.read
 
 pub returns : goal.returns
 returns c =
-    let m = c.read_more in record {
-      shows = head_good c.args.text.now c.read_more-head.new.cells c.read_more-head.result (head (goal.at.returns c).After-read_more-head) c.if-head-ne0.false (room (goal.at.returns c).After-read_more-head)
-          c.units_read.result c.units_read.ensures.value m.new.cells m.result (m.ensures.shows _ (head (goal.at.returns c).After-read_more-head));
-      lines_bound = omega (arith, m.ensures.lines_bound, few (goal.at.returns c).After-read_more-head, c.units_read.ensures.upper_bound);
+    let t = c.args.text.now in
+    let h = head (goal.at.returns c).In_ok-head in
+    let kept = held (goal.at.returns c).In_ok-head h in
+    let count = (onward t due_row 30 begin h.reading h.read).counted in
+    let units : c.units_read.result ≡ units_read h.reading.lines =
+    c.units_read.ensures.value
+    ∙ sym (ap (λ (l : Line). ones (number_of l)) (kept 29 (omega (arith, count)) (omega (arith, c.read_more.auto.kept, c.requires.in_bounds)))) in
+    let all = good_head t h.reading h.read c.units_read.result units in
+    let few : c.in_ok-head.head.lines ≡ 30 =
+    IfOk-at_ok (λ (d : Cursor). d.lines ≡ c.start.result.lines + 30) c.in_ok-head.was c.read_more.ensures.lines_bound ∙ ap (λ (x : Cursor). x.lines + 30) c.start.ensures in
+    let m = c.read_more-2 in
+    record {
+      cursor = m.ensures.cursor h.reading h.cursor kept ∙ ap cursors all;
+      kept = λ s e. m.ensures.kept h.reading s h.cursor kept (all ∙ e);
+      lines_bound = IfOk-weaker m.result _ _ (λ d e. omega (arith, e, few, c.units_read.ensures.upper_bound)) m.ensures.lines_bound;
     }

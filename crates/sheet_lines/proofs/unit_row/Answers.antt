@@ -8,18 +8,17 @@ use Rattle.sheet_lines.specs.Rows.{unit_rows, end_row}
 use Rattle.sheet_lines.proofs.Table.{offer_at_lem}
 use Rattle.sheet_lines.proofs.unit_row.Goals as goal
 
-pub returns-then-k-eq0 : goal.returns-then-k-eq0
+pub returns-in-0 : goal.returns-in-0
 unfolding unit_rows
-returns-then-k-eq0 c = c.number_row.ensures ∙ ap (λ (n : ℕ). get_or unit_rows n end_row) (sym c.if-k-eq0.true)
+returns-in-0 c = c.number_row.ensures ∙ ap (λ (n : ℕ). get_or unit_rows n end_row) (sym c.in-0.is)
 
-pub returns-then-k-eq1 : goal.returns-then-k-eq1
+pub returns-in-1 : goal.returns-in-1
 unfolding unit_rows
-returns-then-k-eq1 c = c.number_row-then-k-eq1.ensures ∙ ap (λ (n : ℕ). get_or unit_rows n end_row) (sym c.if-k-eq1.true)
+returns-in-1 c = c.number_row-in-1.ensures ∙ ap (λ (n : ℕ). get_or unit_rows n end_row) (sym c.in-1.is)
 
-pub returns-then-k-eq2 : goal.returns-then-k-eq2
+pub returns-in-2 : goal.returns-in-2
 unfolding unit_rows
-returns-then-k-eq2 c = c.number_row-then-k-eq2.ensures ∙ ap (λ (n : ℕ). get_or unit_rows n end_row) (sym c.if-k-eq2.true)
+returns-in-2 c = c.number_row-in-2.ensures ∙ ap (λ (n : ℕ). get_or unit_rows n end_row) (sym c.in-2.is)
 
-pub returns : goal.returns
-returns c =
-    c.offer_row.ensures ∙ sym (offer_at_lem c.args.k (omega (arith, c.if-k-eq2.false, c.if-k-eq1.false, c.if-k-eq0.false)) c.requires)
+pub returns-in_default : goal.returns-in_default
+returns-in_default c = c.offer_row.ensures ∙ sym (offer_at_lem c.args.k (omega (arith, c.in_default)) c.requires)

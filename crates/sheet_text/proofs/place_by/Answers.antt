@@ -13,7 +13,7 @@ unit_by-requires c = omega (arith, c.block_of.ensures, members_le c.args.units c
 pub returns-then-member_at : goal.returns-then-member_at
 returns-then-member_at c =
     simp (sym c.member_at.ensures ∙ c.if-member_at.true)
-    (c.unit_by.ensures ∙ ap (unit_by (line_in c.args.cells.now)) c.block_of.ensures)
+    (c.unit_by.ensures ∙ ap (unit_by (line_in c.args.kept.now)) c.block_of.ensures)
 
-pub returns : goal.returns
-returns c = simp (sym c.member_at.ensures ∙ c.if-member_at.false) c.no_unit.ensures
+pub returns-else-member_at : goal.returns-else-member_at
+returns-else-member_at c = simp (sym c.member_at.ensures ∙ c.if-member_at.false) c.no_unit.ensures

@@ -1,42 +1,26 @@
--- The offers are filled from the front, an hour a turn.
+-- The offers are made by index, from the lines of the block.
 -- Assumes nothing.
-use Prim.Native.Nat.{ℕ, ◌+◌}
-use mathlib.Core.Path.{◌≡◌, refl, ap, sym, ◌∙◌}
-use native.Mathlib.Omega.{arith}
-use lib.ListN.{take, length-set}
+use Rattle.std.proofs.Common.{rules}
+use Prim.Native.Nat.{◌+◌}
+use mathlib.Core.Path.{◌≡◌}
 use Rattle.finite.specs.Finite.{tabulate}
-use Rattle.finite.proofs.Tables.{filled_next, filled}
+use Rattle.finite.proofs.Chains.{tabulate_from_fn}
 use Rattle.lines.specs.Cells.{line_in}
-use Rattle.offer.specs.declared.Offer.{Offer}
-use Rattle.sheet_text.specs.Day.{offer_by, unit_by}
+use Rattle.lines.specs.Lines.{number_of}
 use Rattle.sheet_lines.specs.Rows.{block_line}
+use Rattle.sheet_text.specs.Day.{offer_by, unit_by}
 use Rattle.sheet_text.proofs.unit_by.Goals as goal
-
-pub loop-h-init : goal.loop-h-init
-unfolding tabulate
-loop-h-init c = (omega arith, refl, refl)
-
-pub loop-h-preserved : goal.loop-h-preserved
-loop-h-preserved c =
-    let l = c.loop-h in
-    let g = c.args in (
-      omega arith,
-      simp length-set l.invariant.1,
-      filled_next (λ h. offer_by (line_in g.cells.now (block_line g.j + 3 + h))) l.offers l.h _ (omega arith) l.invariant.2 c.offer_by.ensures,
-    )
 
 pub returns : goal.returns
 unfolding unit_by
 returns c =
-    let l = c.loop-h in
-    let g = c.args in
-    let f : ℕ → Offer = λ h. offer_by (line_in g.cells.now (block_line g.j + 3 + h)) in
-    let all : l.h ≡ 24 = omega arith in
-    let offers : l.offers ≡ tabulate 24 f =
-    filled f l.offers 24 (omega arith) (ap (λ (n : ℕ). take n l.offers) (sym all) ∙ (l.invariant.2 ∙ ap (λ (n : ℕ). tabulate n f) all)) in
+    let f = line_in c.args.kept.now in
+    let at = block_line c.args.j in
+    let offers : c.from_fn.result ≡ tabulate 24 (λ h. offer_by (f (at + 3 + h))) =
+    tabulate_from_fn (λ h. offer_by (f (at + 3 + h))) _ _ c.from_fn.ensures.items (λ i y q l k. search rules) in
     λ i. record {
-      own = c.first_at.ensures i;
-      nominal = record { 0 = c.first_at-2.ensures i };
-      monthly = record { 0 = c.first_at-3.ensures i };
+      own = number_of (f at);
+      nominal = record { 0 = number_of (f (at + 1)) };
+      monthly = record { 0 = number_of (f (at + 2)) };
       offers = offers i;
     }

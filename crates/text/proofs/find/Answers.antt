@@ -1,24 +1,25 @@
--- No byte before the place looked at is the mark; so the first that is, or the end, is what the definition seeks.
+-- The first place of the mark in what is left, or its end, is what the definition seeks.
 -- Assumes nothing.
-use Rattle.text.proofs.Walk.{seek_end, seek_first, seek_on}
+use Rattle.std.proofs.Common.{rules}
+use borrow.Author.Tests.{tests}
+use Rattle.text.proofs.Walk.{seek_end, sought}
+use Rattle.std.proofs.lemmas.Slice.{between_to_end}
+use Rattle.text.specs.Text.{seek}
 use native.Mathlib.Omega.{arith}
-use mathlib.Core.Path.{refl}
+use Prim.Native.Nat.{◌≤◌}
+use lib.ListN.{length, drop}
+use mathlib.Core.Path.{◌≡◌, ap}
+use mathlib.Core.List.{List}
+use Prim.Native.Nat.{ℕ}
 use Rattle.text.proofs.find.Goals as goal
 
-pub loop-i-init : goal.loop-i-init
-loop-i-init c = (omega arith, refl)
-
-pub returns-then-s-i : goal.returns-then-s-i
-returns-then-s-i c =
-    let g = c.args in
-    omega (arith, c.loop-i.invariant.1, seek_first g.s.now c.loop-i.i (omega arith) g.mark g.mark c.if-s-i.true)
-
-pub loop-i-preserved : goal.loop-i-preserved
-loop-i-preserved c =
-    let g = c.args in
-    omega (arith, c.loop-i.invariant.1, seek_on g.s.now c.loop-i.i (omega arith) g.mark g.mark c.if-s-i.false c.if-s-i.false)
+pub returns-in_default : goal.returns-in_default
+returns-in_default c =
+    let past : length c.args.s.now ≤ c.args.from = grind (arith, c.in_default.ensures.lookup) in
+    omega (arith, seek_end c.args.mark c.args.mark c.args.s.now c.args.from past)
 
 pub returns : goal.returns
 returns c =
-    let g = c.args in
-    omega (arith, c.loop-i.invariant.1, seek_end g.mark g.mark g.s.now c.loop-i.i (omega arith))
+    let rest : c.in-Some.rest.now ≡ drop c.args.from c.args.s.now = search (rules, between_to_end) in
+    let e = sought c.args.mark c.in-Some.rest.now c.position.result (search rules) c.position.ensures.ran (λ x q k. search (rules, tests)) (λ x q k. search (rules, tests)) in
+    omega (arith, c.unwrap_or.ensures, e, ap (λ (l : List ℕ). seek c.args.mark c.args.mark l) rest)

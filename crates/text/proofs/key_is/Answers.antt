@@ -1,39 +1,21 @@
--- Byte by byte, up to the first place where line and key differ or both have `=`.
+-- The bytes up to the key's '=' are compared.
 -- Assumes nothing.
-use Rattle.text.proofs.Walk.{key_none, key_short, key_other, key_end, key_on}
 use native.Mathlib.Omega.{arith}
-use mathlib.Core.Path.{refl, sym, ◌∙◌}
+use mathlib.Core.Path.{◌≡◌, ap, sym, ◌∙◌}
+use borrow.Author.Tests.{le-ltb}
+use lib.Dec.{eqb}
+use lib.ListN.{length, take}
+use lib.Pointwise.{pointwise}
+use Prim.Native.Nat.{ℕ, suc, ◌+◌}
+use Rattle.text.specs.Text.{seek}
+use Rattle.text.proofs.Walk.{key_within, key_without}
 use Rattle.text.proofs.key_is.Goals as goal
 
-pub loop-i-init : goal.loop-i-init
-loop-i-init c = (omega arith, refl)
+pub returns-then-n-lt10 : goal.returns-then-n-lt10
+returns-then-n-lt10 c =
+    let n : c.find-n.result + 1 ≡ suc (seek 61 61 c.args.key) = omega (arith, c.find-n.ensures) in
+    (c.starts_with.ensures.value ∙ ap (λ (k : ℕ). pointwise eqb (take k c.args.key) (take (length (take k c.args.key)) c.args.line.now)) n)
+    ∙ sym (key_within c.args.line.now c.args.key (omega (arith, c.well_formed)))
 
-pub returns-then-line-i : goal.returns-then-line-i
-returns-then-line-i c =
-    let g = c.args in
-    let l = c.loop-i in
-    sym (key_short g.line.now g.key l.i c.if-line-i.true) ∙ l.invariant.1
-
-pub returns-then-line-i-2 : goal.returns-then-line-i-2
-returns-then-line-i-2 c =
-    let g = c.args in
-    let l = c.loop-i in
-    sym (key_other g.line.now g.key l.i (omega (arith, c.well_formed)) (omega arith) c.if-line-i-2.true) ∙ l.invariant.1
-
-pub returns-then-w-eq61 : goal.returns-then-w-eq61
-returns-then-w-eq61 c =
-    let g = c.args in
-    let l = c.loop-i in
-    sym (key_end g.line.now g.key l.i (omega (arith, c.well_formed)) (omega arith) c.if-line-i-2.false c.if-w-eq61.true) ∙ l.invariant.1
-
-pub loop-i-preserved : goal.loop-i-preserved
-loop-i-preserved c =
-    let g = c.args in
-    let l = c.loop-i in
-    (omega arith, sym (key_on g.line.now g.key l.i (omega (arith, c.well_formed)) (omega arith) c.if-line-i-2.false c.if-w-eq61.false) ∙ l.invariant.1)
-
-pub returns : goal.returns
-returns c =
-    let g = c.args in
-    let l = c.loop-i in
-    sym (key_none g.line.now g.key l.i (omega (arith, c.well_formed))) ∙ l.invariant.1
+pub returns-else-n-lt10 : goal.returns-else-n-lt10
+returns-else-n-lt10 c = le-ltb _ _ c.if-n-lt10.false ∙ sym (key_without c.args.line.now c.args.key (omega (arith, c.well_formed)))

@@ -1,10 +1,7 @@
 use Rattle.values.specs.Values.{rising}
-use Prim.Native.Nat.{◌≤◌, ◌+◌, ◌*◌, ◌/◌}
+use Prim.Native.Nat.{◌-◌, ◌*◌, ◌/◌}
 use mathlib.Core.Path.{◌≡◌}
 use Rattle.values.proofs.rising.Given as goal
 
-abbrev pub invariant-loop-left : goal.invariant-loop-left
-invariant-loop-left l = (l.at + 2 * l.left ≤ l.count) × (rising l.number l.at l.left l.q l.p ≡ rising l.number 0 (l.count / 2) 0 0)
-
-abbrev pub decreases-loop-left : goal.decreases-loop-left
-decreases-loop-left l = l.left
+abbrev pub invariant-loop-s : goal.invariant-loop-s
+invariant-loop-s l = rising l.number (2 * l.s) (l.count / 2 - l.s) l.q l.p ≡ rising l.number 0 (l.count / 2) 0 0

@@ -1,6 +1,0 @@
-use Rattle.record.proofs.Counted.{counted_in as kind-in}
-use Rattle.deviation.proofs.Weights.{Counted}
-use Rattle.deviation.proofs.proportions.Given as goal
-
-abbrev pub invariant-loop-span : goal.invariant-loop-span
-invariant-loop-span l = Counted l.own l.fn.u l.span-index l.sums
