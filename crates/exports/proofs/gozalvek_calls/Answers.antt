@@ -1,5 +1,6 @@
 -- Where the sheet's text is refused nothing else is written; otherwise the answers are, the book in numbers and the journal list.
 -- Assumes nothing.
+use mathlib.Core.Path.{refl}
 use native.Mathlib.Omega.{arith}
 use Rattle.exports.proofs.Called.{called_refused, called_read}
 use Rattle.exports.proofs.gozalvek_calls.Goals as goal
