@@ -1,5 +1,6 @@
 -- What the code does to its buffer, turn by turn, is what the definition prints: each turn writes its bytes behind those of the turns before it.
 -- Assumes nothing.
+use Rattle.std.specs.Prelude.{Result, Ok, Err}
 use mathlib.Core.Path.{◌≡◌, refl, ap, sym, subst, ◌∙◌}
 use mathlib.Core.Bool.{Bool, true, false, cond}
 use mathlib.Core.List.{List, [], ◌∷◌}
@@ -9,11 +10,9 @@ use borrow.Author.Tests.{ltb-true}
 use lib.Dec.{ltb}
 use lib.ListN.{length, set, length-set}
 use Rattle.sheet.specs.declared.Sheet.{Sheet}
-use Rattle.sheet_text.specs.declared.SheetRead.{SheetRead}
+use Rattle.sheet_text.specs.Day.{SheetTold}
 use Rattle.sheet_text.specs.Day.{read_sheet}
 use Rattle.sheet_text.proofs.Laws.{start_bad}
-use Rattle.lines.specs.declared.ReadAnswer.{ReadAnswer}
-use Rattle.lines.specs.declared.ReadAnswer.TheVariants.{Read, Refused}
 use Rattle.lines.specs.declared.TextRefusal.{TextRefusal}
 use Rattle.lines.specs.Refusals.{bad_start}
 use Rattle.lines.proofs.Reading.{start_within}
@@ -50,23 +49,23 @@ unfolding written
 begun_shown sheet text out from n = ran_shown sheet text out (begun from) n
 
 -- a text whose sheet is read is not too long
-pub read_short : (text : List ℕ) (place : ℕ) → (read_sheet text 0).answer ≡ Read place → length text ≤ 65536
+pub read_short : (text : List ℕ) (place : ℕ) → (read_sheet text 0).answer ≡ Ok place → length text ≤ 65536
 read_short text place h = by (bad_start text 0) refl
   where
     by : (t : Bool) → bad_start text 0 ≡ t → length text ≤ 65536
-    by true e = absurd (let r = ap (λ (x : SheetRead). x.answer) (start_bad text 0 e) in let z : ◌≡◌ {A = ℕ} 0 1 = cc in omega arith)
+    by true e = absurd (let r = ap (λ (x : SheetTold). x.answer) (start_bad text 0 e) in let z : ◌≡◌ {A = ℕ} 0 1 = cc in omega arith)
     by false e = (start_within text 0 e).0
 
 -- what is printed for a text, by its sheet
-pub read_printed : (text : List ℕ) (s : SheetRead) (place : ℕ) → s ≡ read_sheet text 0 → s.answer ≡ Read place → call_lines s.sheet text place ≡ replayed text
+pub read_printed : (text : List ℕ) (s : SheetTold) (place : ℕ) → s ≡ read_sheet text 0 → s.answer ≡ Ok place → call_lines s.sheet text place ≡ replayed text
 unfolding replayed
 read_printed text s place e h =
-    ap (λ (a : ReadAnswer). replayed_by text a s.sheet) (sym h) ∙ ap (λ (x : SheetRead). replayed_by text x.answer x.sheet) e
+    ap (λ (a : Result ℕ TextRefusal). replayed_by text a s.sheet) (sym h) ∙ ap (λ (x : SheetTold). replayed_by text x.answer x.sheet) e
 
-pub refused_printed : (text : List ℕ) (s : SheetRead) (r : TextRefusal) → s ≡ read_sheet text 0 → s.answer ≡ Refused r → sheet_refused r ≡ replayed text
+pub refused_printed : (text : List ℕ) (s : SheetTold) (r : TextRefusal) → s ≡ read_sheet text 0 → s.answer ≡ Err r → sheet_refused r ≡ replayed text
 unfolding replayed
 refused_printed text s r e h =
-    ap (λ (a : ReadAnswer). replayed_by text a s.sheet) (sym h) ∙ ap (λ (x : SheetRead). replayed_by text x.answer x.sheet) e
+    ap (λ (a : Result ℕ TextRefusal). replayed_by text a s.sheet) (sym h) ∙ ap (λ (x : SheetTold). replayed_by text x.answer x.sheet) e
 
 -- the place stays within the buffer
 Within : Output → Type 0

@@ -1,7 +1,7 @@
 -- The bytes that `replay` prints for a text.
+use Rattle.std.specs.Prelude.{Result, Ok, Err}
+use Rattle.lines.specs.declared.TextRefusal.{TextRefusal}
 use Rattle.std.specs.Prelude.{ℕ, zero, suc, ◌+◌, cond, List, [], ◌++◌, eqb, length}
-use Rattle.lines.specs.declared.ReadAnswer.{ReadAnswer}
-use Rattle.lines.specs.declared.ReadAnswer.TheVariants.{Read, Refused}
 use Rattle.sheet.specs.declared.Sheet.{Sheet}
 use Rattle.sheet_text.specs.Day.{read_sheet}
 use Rattle.state.specs.declared.Book.{Book}
@@ -64,9 +64,9 @@ stop_of e = cond (eqb e.refusal 0) [] (stop_line e.line e.refusal)
 unfoldable pub call_lines : Sheet → List ℕ → (from : ℕ) → List ℕ
 call_lines sheet text from = (steps sheet text (begun from) (turns_of (extent_of text from))).bytes ++ stop_of (extent_of text from)
 
-abbrev pub replayed_by : List ℕ → ReadAnswer → Sheet → List ℕ
-replayed_by text (Read place) sheet = call_lines sheet text place
-replayed_by text (Refused r) sheet = sheet_refused r
+abbrev pub replayed_by : List ℕ → Result ℕ TextRefusal → Sheet → List ℕ
+replayed_by text (Ok place) sheet = call_lines sheet text place
+replayed_by text (Err r) sheet = sheet_refused r
 
 unfoldable pub replayed : List ℕ → List ℕ
 replayed text = replayed_by text (read_sheet text 0).answer (read_sheet text 0).sheet

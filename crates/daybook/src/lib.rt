@@ -10,7 +10,6 @@ ghost use Rattle.daybook.specs.Replay.{turns_of, call_lines, replayed};
 
 use asks::{Asking, Extent};
 use ledger::{Outcome, Refusal};
-use lines::ReadAnswer;
 use postings::Posting;
 use sheet::Sheet;
 use state::Book;
@@ -206,11 +205,8 @@ pub fn replay_of(text: &[u8], out: &mut [u8]) -> usize
     ensures result_after { output out.new result ≡ written (output out.old 0) (replayed text.now) }
     ensures upper_bound { result ≤ length out.new }
 {
-    let read = sheet_text::read_sheet(text, 0);
-    let answer = read.answer;
-    let found = read.sheet;
-    match answer {
-        ReadAnswer::Read(place) => put_calls(out, found, text, place as usize),
-        ReadAnswer::Refused(refusal) => entries::put_sheet_refused(out, 0, refusal),
+    match sheet_text::read_sheet(text, 0) {
+        Ok(read) => put_calls(out, read.sheet, text, read.place as usize),
+        Err(refusal) => entries::put_sheet_refused(out, 0, refusal),
     }
 }

@@ -1,16 +1,15 @@
 -- The decisions on an hour, test by test: each law is one way through the rows of a call. What the tests of a record rest on follows from what its
 -- settlement rests on.
 -- Assumes nothing.
+use Rattle.std.specs.Prelude.{Result, Ok, Err}
 use mathlib.Core.Path.{◌≡◌, refl, ap, sym, ◌∙◌}
 use mathlib.Core.Bool.{Bool, true, false}
 use mathlib.Core.List.{List}
 use Prim.Native.Nat.{ℕ}
 use Rattle.energy.specs.declared.HubKwh.{HubKwh}
-use Rattle.lines.specs.declared.ReadAnswer.{ReadAnswer}
-use Rattle.lines.specs.declared.ReadAnswer.TheVariants.{Read, Refused}
 use Rattle.lines.specs.declared.TextRefusal.{TextRefusal}
 use Rattle.record.specs.declared.Record.{Record}
-use Rattle.record_text.specs.declared.RecordRead.{RecordRead}
+use Rattle.record_text.specs.Hour.{RecordTold}
 use Rattle.record.specs.InRange.{InRange}
 use Rattle.record.specs.Spans.{minutes_hold}
 use Rattle.terms.specs.declared.HourSheet.{HourSheet}
@@ -46,7 +45,7 @@ module _ (units hour : ℕ) (settled : Bool) (count places : ℕ) where
 -- a record that was read
 module _ (day : HourSheet) (held : List HubKwh) (again settled : Bool) (start : ℕ) (r : Record) (place count places : ℕ) where
   abbrev decided : HourChange
-  decided = record_decided day held again settled start (record { answer = Read place; read = r }) count places
+  decided = record_decided day held again settled start (record { answer = Ok place; read = r }) count places
 
   pub record_31 : minutes_hold r day.units ≡ false → hour_refused start Minutes ≡ decided
   unfolding record_decided verdict
@@ -81,14 +80,14 @@ module _ (day : HourSheet) (held : List HubKwh) (again settled : Bool) (start : 
           record_done t = simp (n31, n40, n32, n33, t)
 
 -- by what was read
-module _ (day : HourSheet) (held : List HubKwh) (again settled : Bool) (start : ℕ) (reading : RecordRead) (count places : ℕ) where
-  pub record_read : (place : ℕ) → reading.answer ≡ Read place
-      → record_decided day held again settled start (record { answer = Read place; read = reading.read }) count places
+module _ (day : HourSheet) (held : List HubKwh) (again settled : Bool) (start : ℕ) (reading : RecordTold) (count places : ℕ) where
+  pub record_read : (place : ℕ) → reading.answer ≡ Ok place
+      → record_decided day held again settled start (record { answer = Ok place; read = reading.read }) count places
       ≡ record_decided day held again settled start reading count places
   record_read place t =
-      ap (λ (a : ReadAnswer). record_decided day held again settled start (record { answer = a; read = reading.read }) count places) (sym t)
+      ap (λ (a : Result ℕ TextRefusal). record_decided day held again settled start (record { answer = a; read = reading.read }) count places) (sym t)
 
-  pub record_refused : (x : TextRefusal) → reading.answer ≡ Refused x → hour_refused start (Text x) ≡ record_decided day held again settled start reading count places
+  pub record_refused : (x : TextRefusal) → reading.answer ≡ Err x → hour_refused start (Text x) ≡ record_decided day held again settled start reading count places
   unfolding record_decided verdict
   record_refused x t = rw t refl
 

@@ -3,7 +3,7 @@
 #![tactic(auto)]
 
 ghost use Rattle.std.specs.Prelude.{◌≡◌, true, false, ◌&&◌, ◌||◌, ltb, eqb, ℕ, ◌+◌, ◌≤◌, ◌<◌, min};
-ghost use Rattle.lines.specs.declared.ReadAnswer.TheVariants.{Read};
+ghost use Rattle.record_text.specs.Hour.{told};
 ghost use Rattle.settlement.specs.Ranges.{HourDue};
 ghost use Rattle.ledger.specs.Calls.{verdict, bad_hour, unknown_units, short_of, book_fits};
 ghost use Rattle.ledger.specs.Numbers.{number_of, line_of, posted_of};
@@ -14,7 +14,7 @@ ghost use Rattle.decisions.specs.Hours.{hour_refused, hour_changed, void_decided
 
 use energy::{Energy, HubKwh};
 use ledger::{Asked, Effect, Refusal};
-use lines::ReadAnswer;
+use lines::TextRefusal;
 use record::Record;
 use record_text::RecordRead;
 use settlement::HourResult;
@@ -472,20 +472,16 @@ pub fn decide_record(
     again: bool,
     settled: bool,
     start: u64,
-    reading: RecordRead,
+    reading: Result<RecordRead, TextRefusal>,
     count: u64,
     places: usize,
 ) -> HourChange
-    requires { (place : ℕ) → reading.answer ≡ Read place → HourDue day reading.read held }
-    ensures { result ≡ record_decided day held again settled start reading count places }
+    requires { (place : ℕ) → (told reading).answer ≡ Ok place → HourDue day (told reading).read held }
+    ensures { result ≡ record_decided day held again settled start (told reading) count places }
 {
-    let answer = reading.answer;
-    let read = reading.read;
-    match answer {
-        ReadAnswer::Refused(refusal) => hour_refused(start, Refusal::Text(refusal)),
-        ReadAnswer::Read(place) => {
-            decide_read(day, held, again, settled, start, read, place, count, places)
-        }
+    match reading {
+        Ok(r) => decide_read(day, held, again, settled, start, r.read, r.place, count, places),
+        Err(refusal) => hour_refused(start, Refusal::Text(refusal)),
     }
 }
 

@@ -3,13 +3,15 @@
 -- Assumes nothing.
 use Rattle.engine.proofs.HourReady.{hour_at, record_due, record_ready}
 use Rattle.engine.proofs.HourDecided.{record_carried}
+use mathlib.Core.Path.{ap, ◌∙◌}
+use Rattle.decisions.specs.Changes.{hour_index}
 use Rattle.engine.proofs.record_hour.Goals as goal
 
 pub decide_record-d-requires : goal.decide_record-d-requires
 decide_record-d-requires c =
     record_due
     (hour_at c.read_record-reading.ensures
-    c.hour_index-h.ensures.value
+    (c.hour_index-h.ensures.value ∙ ap hour_index c.hour_of.ensures)
     c.held_in-held.ensures
     c.offers_in.ensures
     c.hour_sheet-day.ensures)
@@ -19,7 +21,7 @@ pub store_hour-requires : goal.store_hour-requires
 store_hour-requires c =
     record_ready
     (hour_at c.read_record-reading.ensures
-    c.hour_index-h.ensures.value
+    (c.hour_index-h.ensures.value ∙ ap hour_index c.hour_of.ensures)
     c.held_in-held.ensures
     c.offers_in.ensures
     c.hour_sheet-day.ensures)
@@ -31,7 +33,7 @@ returns c =
     record_carried
     c.requires _ _ _ _
     (hour_at c.read_record-reading.ensures
-    c.hour_index-h.ensures.value
+    (c.hour_index-h.ensures.value ∙ ap hour_index c.hour_of.ensures)
     c.held_in-held.ensures
     c.offers_in.ensures
     c.hour_sheet-day.ensures) _
