@@ -6,7 +6,7 @@ ghost use Rattle.formulas.specs.Items.{kinds};
 ghost use Rattle.charge.specs.Test.{Bounded, kind_weight, counted_at, counted_part, counted_deviation, is_charged, weighted as the_weighted, base_charge, growth as the_growth, hours_counted, charge_of, NearExact};
 
 use energy::{Energy, HubGrains, NetKwh};
-use formulas::{Deviations, KINDS};
+use formulas::{AvailabilityRate, Deviations, KINDS};
 
 // How a kind is charged: the tenths of its deviation that W takes, 0 where it is not charged, and whether `repair` exempts it.
 #[derive(Clone, Copy)]
@@ -131,13 +131,13 @@ pub fn weighted(d: Deviations, repair: u64) -> u64
 
 // The charge of the first hour, b.
 #[tactic(auto, using(crate::proofs::Charge::rated_most, crate::proofs::Charge::product_most), unfolding(crate::specs::Test::base_charge))]
-fn base_charge(w: u64, cpf: u64, bar: u64) -> u64
-    requires { (w ≤ 10000000) × (cpf ≤ 10000) × (bar ≤ 1000000) }
-    ensures { result ≡ base_charge w cpf bar }
+fn base_charge(w: u64, rate: AvailabilityRate) -> u64
+    requires { w ≤ 10000000 }
+    ensures { result ≡ base_charge w rate.cpf rate.bar }
 {
     let tenths = w * 125;
-    let rated = tenths * cpf;
-    let product = rated * bar;
+    let rated = tenths * rate.cpf;
+    let product = rated * rate.bar;
     product / 1000000000
 }
 
@@ -167,12 +167,12 @@ fn hours_counted(since: u64) -> u64
 
 // The charge of a weighted deviation in its hour `since`: not over the exact product, and less than 130 Rial short of it.
 #[tactic(auto, using(crate::proofs::Charge::hours_most, crate::proofs::Charge::grown_most, crate::proofs::Charge::charge_near), unfolding(crate::specs::Test::charge_of))]
-pub fn charge_of(w: u64, since: u64, cpf: u64, bar: u64) -> u64
-    requires { (w ≤ 10000000) × (cpf ≤ 10000) × (bar ≤ 1000000) }
-    ensures value { result ≡ charge_of w since cpf bar }
-    ensures near_exact { NearExact w cpf bar (hours_counted since) result }
+pub fn charge_of(w: u64, since: u64, rate: AvailabilityRate) -> u64
+    requires { w ≤ 10000000 }
+    ensures value { result ≡ charge_of w since rate.cpf rate.bar }
+    ensures near_exact { NearExact w rate.cpf rate.bar (hours_counted since) result }
 {
-    let base = base_charge(w, cpf, bar);
+    let base = base_charge(w, rate);
     let n = hours_counted(since) as usize;
     base * growth(n) / 100000000
 }

@@ -16,7 +16,6 @@ use Rattle.numbers.proofs.Pasted.{pasted_before, pasted_in}
 use Rattle.ledger.specs.declared.Asked.{Asked}
 use Rattle.ledger.specs.Requests.{call_numbers, asked_at, none_asked}
 use Rattle.day_calls.specs.declared.Step.{Step}
-use Rattle.day_calls.specs.declared.Listed.{Listed}
 use Rattle.day_calls.specs.DayCalls.{step_at, DayCalls, no_calls, with_call, calls_by, day_calls, line_bytes, number_of, stored_at, Lists}
 use Rattle.day_calls.proofs.Steps.{step_goes, day_calls_is}
 

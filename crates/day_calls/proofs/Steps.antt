@@ -1,7 +1,7 @@
 -- Each call of a day's text takes a line of six bytes at least, so the count of bytes in `day_calls` never runs out while a call comes, and the list is what
 -- its sentence says: call after call up to the text's end or the first line that is no call.
 -- Assumes nothing.
-use mathlib.Core.Path.{◌≡◌, refl, ap, sym, ◌∙◌}
+use mathlib.Core.Path.{◌≡◌, refl, ap, sym}
 use mathlib.Core.Bool.{Bool, true, false, cond, true≢false}
 use mathlib.Core.List.{List, [], ◌∷◌}
 use Prim.Native.Nat.{ℕ, zero, suc, ◌+◌, ◌≤◌, ◌<◌}
@@ -17,12 +17,11 @@ use Rattle.std.specs.Prelude.{Result, Ok, Err}
 use Rattle.text.specs.declared.Line.{Line}
 use Rattle.text.specs.declared.TextFault.{TextFault}
 use Rattle.lines.specs.Lines.{place_after}
-use Rattle.record_end.specs.End.{behind, behind_record}
+use Rattle.record_end.specs.End.{behind_record}
 use Rattle.record_end.proofs.Behind.{behind_line, behind_le}
-use Rattle.day_calls.specs.declared.Next.{Next}
-use Rattle.day_calls.specs.declared.Next.TheVariants.{Ends, Bad, Take, Settle}
+use Rattle.day_calls.specs.declared.Next.TheVariants.{Ends, Bad, Settle}
 use Rattle.day_calls.specs.declared.Step.{Step}
-use Rattle.day_calls.specs.DayCalls.{take_row, take_asked, settle_asked, take_of, next_at, step_by, step_at, DayCalls, no_calls, with_call, calls_by, calls_from, day_calls, line_bytes}
+use Rattle.day_calls.specs.DayCalls.{take_row, settle_asked, take_of, next_at, step_by, step_at, DayCalls, no_calls, with_call, calls_by, calls_from, day_calls, line_bytes}
 
 -- a word has as many bytes as stand before its '='
 word_length : (s w : List ℕ) → word_is s w ≡ true → length s ≡ seek 61 61 w

@@ -11,7 +11,7 @@ ghost use Rattle.charge.specs.Test.{Bounded, weighted};
 
 use allocation::Plant;
 use energy::{Energy, GrossKwh, HubGrains, HubKwh, NetKwh};
-use formulas::Deviations;
+use formulas::{AvailabilityRate, Deviations};
 use offer::Offer;
 use record::{Span, UnitRecord};
 use std::io;
@@ -241,7 +241,11 @@ fn test_example<W: Write>(
     say(out, b" ")?;
     if charge::is_charged(q, Some(reading), HubGrains(0), 0) {
         let w = charge::weighted(d, repair);
-        say_number(out, charge::charge_of(w, since, cpf, 185000))?;
+        let rate = AvailabilityRate {
+            cpf: cpf,
+            bar: 185000,
+        };
+        say_number(out, charge::charge_of(w, since, rate))?;
     } else {
         say_number(out, 0)?;
     }
@@ -263,10 +267,11 @@ fn refund_example<W: Write>(
     let short = formulas::refund_kwh(declared, real, d, allowed);
     say(out, name)?;
     say_next(out, short.0)?;
-    say_next(
-        out,
-        formulas::refund(declared, real, d, allowed, 1500, 185000),
-    )?;
+    let rate = AvailabilityRate {
+        cpf: 1500,
+        bar: 185000,
+    };
+    say_next(out, formulas::refund(declared, real, d, allowed, rate))?;
     say(out, b"\n")
 }
 

@@ -1,11 +1,11 @@
 -- What a chain over an array or a range gives, in the words of this crate: `from_fn` and `map` make a list by index, and `all` is a
 -- test over a range. Each holds because the closure, which changes nothing, is called at one index after the other.
-use Rattle.std.proofs.Common.{◌≡◌, refl, sym, ◌∙◌, ap, ℕ, zero, suc, ◌+◌, ◌≤◌, ◌<◌, List, length, get_or, slice_index_or, arith, add-one, Bool, true, false}
+use Rattle.std.proofs.Common.{◌≡◌, sym, ◌∙◌, ap, ℕ, zero, suc, ◌+◌, ◌≤◌, ◌<◌, List, length, get_or, arith, Bool, true, false}
 use mathlib.Core.Logic.{⊎_elim}
-use native.Mathlib.Nat.{eq-or-lt_of_le, not-suc-le-zero}
+use native.Mathlib.Nat.{eq-or-lt_of_le}
 use lib.Seq.{ext_get_or}
 use denote.Param.Members.{Mut, Called}
-use Rattle.std.specs.Array.{IsFromFnResultFrom, IsFromFnResult, MapsFrom, IsMapOf, IsElementAt}
+use Rattle.std.specs.Array.{IsFromFnResultFrom, IsFromFnResult, MapsFrom, IsMapOf}
 use Rattle.std.specs.Bool.{MatchBool}
 use Rattle.std.specs.List.{AllWithin, HoldsAt, FoldsTo, range_with_len}
 use Rattle.std.specs.Option.{MatchOption}
@@ -14,9 +14,8 @@ use Rattle.std.specs.Slice.Iter.{iter_rest}
 use Rattle.std.specs.declared.slice.Iter.{Iter}
 use Rattle.std.specs.declared.ops.Range.{Range}
 use Rattle.std.specs.declared.option.Option.{Option}
-use Rattle.std.specs.declared.option.Option.TheVariants.{None, Some}
 use Rattle.std.proofs.iter.Yields.{fronts, nat_range_steps}
-use Rattle.std.proofs.lemmas.Iterator.{YieldsList, YieldsList-from_slice, YieldsList-from_range, cases_from_all}
+use Rattle.std.proofs.lemmas.Iterator.{YieldsList-from_slice, YieldsList-from_range, cases_from_all}
 use Rattle.std.proofs.lemmas.List.FromFn.{length-range_with_len, get_or-range_with_len}
 use denote.Ref.{Bor}
 use Rattle.finite.specs.Finite.{tabulate, every}

@@ -9,6 +9,14 @@ use energy::{Energy, GrossKwh, NetKwh};
 // The number of kinds that a deviation is split into: 2 to 8.
 pub const KINDS: usize = 7;
 
+// What availability is paid by: the hour's capacity payment factor and the base availability rate.
+#[derive(Clone, Copy)]
+pub struct AvailabilityRate {
+    pub cpf: u64,
+    pub bar: u64,
+    ghost in_range: { (cpf ≤ 10000) × (bar ≤ 1000000) },
+}
+
 // A unit's deviation by kind, from kind 2 on, in net kWh at the gate.
 #[derive(Clone, Copy)]
 pub struct Deviations {
@@ -50,11 +58,11 @@ pub fn energy_pay(cost: u64) -> u64
 
 // Item 2: availability beyond the commitment's gate energy.
 #[tactic(auto, unfolding(crate::specs::Items::availability))]
-pub fn availability_pay(declared: NetKwh, gate: NetKwh, cpf: u64, bar: u64) -> u64
-    requires { (declared.0 ≤ 10000000) × (cpf ≤ 10000) × (bar ≤ 1000000) }
-    ensures { result ≡ availability declared gate cpf bar }
+pub fn availability_pay(declared: NetKwh, gate: NetKwh, rate: AvailabilityRate) -> u64
+    requires { declared.0 ≤ 10000000 }
+    ensures { result ≡ availability declared gate rate.cpf rate.bar }
 {
-    energy::pay_of(declared.above(gate), cpf, bar)
+    energy::pay_of(declared.above(gate), rate.cpf, rate.bar)
 }
 
 // Whether a day lies in the season, from 15/3 to 15/6.
@@ -94,13 +102,12 @@ pub fn refund(
     real: NetKwh,
     d: Deviations,
     allowed: NetKwh,
-    cpf: u64,
-    bar: u64,
+    rate: AvailabilityRate,
 ) -> u64
-    requires { (declared.0 ≤ 10000000) × (cpf ≤ 10000) × (bar ≤ 1000000) }
-    ensures { result ≡ the_refund declared real d allowed cpf bar }
+    requires { declared.0 ≤ 10000000 }
+    ensures { result ≡ the_refund declared real d allowed rate.cpf rate.bar }
 {
-    energy::pay_of(refund_kwh(declared, real, d, allowed), cpf, bar)
+    energy::pay_of(refund_kwh(declared, real, d, allowed), rate.cpf, rate.bar)
 }
 
 // Item 5, a magnitude: energy drawn from the grid, at the ceiling price.

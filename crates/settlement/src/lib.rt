@@ -11,7 +11,7 @@ ghost use Rattle.settlement.specs.Ranges.{HourGiven, HourDue, RatesReady, UnitRe
 
 use allocation::Plant;
 use energy::{HubGrains, HubKwh, NetKwh};
-use formulas::Deviations;
+use formulas::{AvailabilityRate, Deviations};
 use offer::Offer;
 use record::{Record, UnitRecord};
 use std::array;
@@ -31,6 +31,17 @@ pub struct Amounts {
 pub struct HourResult {
     pub energy: [HubGrains; 8],
     pub amounts: [Amounts; 8],
+}
+
+// What availability is paid by in the hour of these rates.
+fn rate_of(rates: Rates) -> AvailabilityRate
+    requires { RatesReady rates }
+    ensures { (result.cpf ≡ rates.cpf) × (result.bar ≡ rates.bar) }
+{
+    AvailabilityRate {
+        cpf: rates.cpf,
+        bar: rates.bar,
+    }
 }
 
 // What a unit's items go by in an hour, beside the rates: its own use, its offer, its commitment, what the record says of it, and its energy.
@@ -61,7 +72,7 @@ impl UnitHour {
         ensures { result ≡ availability_item rates declared self.commitment }
     {
         let gate = energy::gate_of(self.commitment, rates.loss);
-        formulas::paid(formulas::availability_pay(declared, gate, rates.cpf, rates.bar))
+        formulas::paid(formulas::availability_pay(declared, gate, rate_of(rates)))
     }
 
     // Item 3, by the net declared capability, the deviation by kinds and the net declaration ceiling.
@@ -70,7 +81,7 @@ impl UnitHour {
         requires { RatesReady rates × (declared.0 ≤ 1000000) }
         ensures { result ≡ refund_item rates declared self.unit.real d allowed }
     {
-        formulas::owed(formulas::refund(declared, self.unit.real, d, allowed, rates.cpf, rates.bar))
+        formulas::owed(formulas::refund(declared, self.unit.real, d, allowed, rate_of(rates)))
     }
 
     // Item 4, by the deviation by kinds.
@@ -83,7 +94,7 @@ impl UnitHour {
         let q = charge::counted_deviation(d, unit.repair);
         if charge::is_charged(q, unit.reading, self.energy, rates.loss) {
             let w = charge::weighted(d, unit.repair);
-            return formulas::owed(charge::charge_of(w, unit.since, rates.cpf, rates.bar));
+            return formulas::owed(charge::charge_of(w, unit.since, rate_of(rates)));
         }
         0
     }

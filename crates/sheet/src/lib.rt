@@ -63,7 +63,7 @@ pub fn no_sheet() -> Sheet
         loss: 0,
         ceiling: 0,
         bar: 0,
-        cpf: [0u64; 24],
+        cpf: [0; 24],
         units: 0,
         unit: [no_unit(); 8],
     }
@@ -73,138 +73,67 @@ pub fn no_sheet() -> Sheet
 pub fn monthly_of(sheet: Sheet) -> [GrossKwh; 8]
     ensures { result ≡ monthly_of sheet }
 {
-    let mut monthly = [GrossKwh(0); 8];
-    let mut k: usize = 0;
-    while k < 8 {
-        let u = sheet.unit[k];
-        let power = u.monthly;
-        monthly[k] = power;
-        k += 1;
-    }
-    monthly
+    sheet.unit.map(|u| u.monthly)
 }
 
 // Whether a unit's offers of the 24 hours keep their ranges and orders.
 fn offers_hold(u: UnitSheet) -> bool
     ensures { result ≡ every 24 (λ h. offer_holds (offer_at u h)) }
 {
-    let mut h: usize = 0;
-    while h < 24 {
-        let o = u.offers[h];
-        if !offer::offer_holds(o) {
-            return false;
-        }
-        h += 1;
-    }
-    true
+    u.offers.iter().all(|o| offer::offer_holds(*o))
 }
 
 // Whether a unit's values keep their ranges and orders.
+#[tactic(auto, unfolding(crate::specs::Ranges::unit_holds))]
 fn unit_holds(u: UnitSheet) -> bool
     ensures { result ≡ unit_holds u }
 {
-    if u.own > 2000 {
-        return false;
-    }
-    let nominal = u.nominal;
-    if GrossKwh(1).exceeds(nominal) {
-        return false;
-    }
-    if nominal.exceeds(GrossKwh(1000000)) {
-        return false;
-    }
-    let monthly = u.monthly;
-    if monthly.exceeds(GrossKwh(1000000)) {
-        return false;
-    }
-    offers_hold(u)
+    u.own <= 2000
+        && (1..=1000000).contains(&u.nominal.0)
+        && u.monthly.0 <= 1000000
+        && offers_hold(u)
 }
 
 // A place outside the plant has nothing to keep.
 fn place_holds(units: u64, k: usize, u: UnitSheet) -> bool
     ensures { result ≡ place_holds units k u }
 {
-    if units::member_at(units, k) {
-        return unit_holds(u);
-    }
-    true
+    !units::member_at(units, k) || unit_holds(u)
 }
 
 // Whether the plant's units keep their ranges and orders.
 fn units_hold(units: u64, unit: [UnitSheet; 8]) -> bool
     ensures { result ≡ units_hold units unit }
 {
-    let mut k: usize = 0;
-    while k < 8 {
-        let u = unit[k];
-        if !place_holds(units, k, u) {
-            return false;
-        }
-        k += 1;
-    }
-    true
+    (0..8).all(|k| place_holds(units, k, unit[k]))
 }
 
 fn date_holds(month: u64, day: u64) -> bool
     ensures { result ≡ date_holds month day }
 {
-    if month < 1 {
-        return false;
-    }
-    if month > 12 {
-        return false;
-    }
-    if day < 1 {
-        return false;
-    }
-    day <= last_day(month)
+    (1..=12).contains(&month) && (1..=last_day(month)).contains(&day)
 }
 
 fn cpf_holds(cpf: [u64; 24]) -> bool
     ensures { result ≡ cpf_holds cpf }
 {
-    let mut h: usize = 0;
-    while h < 24 {
-        if cpf[h] > 10000 {
-            return false;
-        }
-        h += 1;
-    }
-    true
+    cpf.iter().all(|factor| *factor <= 10000)
 }
 
 fn rates_hold(loss: u64, ceiling: u64, bar: u64) -> bool
     ensures { result ≡ rates_hold loss ceiling bar }
 {
-    if loss > 2000 {
-        return false;
-    }
-    if ceiling > 10000000 {
-        return false;
-    }
-    bar <= 1000000
+    loss <= 2000 && ceiling <= 10000000 && bar <= 1000000
 }
 
 // Whether a sheet keeps its ranges and orders: refusal 9 where it does not.
+#[tactic(auto, unfolding(crate::specs::Ranges::sheet_holds))]
 pub fn sheet_holds(sheet: Sheet) -> bool
     ensures { result ≡ sheet_holds sheet }
 {
-    if !date_holds(sheet.month, sheet.day) {
-        return false;
-    }
-    if !rates_hold(sheet.loss, sheet.ceiling, sheet.bar) {
-        return false;
-    }
-    let cpf = sheet.cpf;
-    if !cpf_holds(cpf) {
-        return false;
-    }
-    if sheet.units < 1 {
-        return false;
-    }
-    if sheet.units > 255 {
-        return false;
-    }
-    let unit = sheet.unit;
-    units_hold(sheet.units, unit)
+    date_holds(sheet.month, sheet.day)
+        && rates_hold(sheet.loss, sheet.ceiling, sheet.bar)
+        && cpf_holds(sheet.cpf)
+        && (1..=255).contains(&sheet.units)
+        && units_hold(sheet.units, sheet.unit)
 }

@@ -10,6 +10,10 @@ use native.Mathlib.Omega.{arith}
 use mathlib.Core.List.{List}
 use Prim.Native.Nat.{ℕ, ◌≤◌, ◌<◌, ◌-◌}
 use mathlib.Core.Path.{◌≡◌, ap, sym, ◌∙◌}
+use Rattle.finite.proofs.Entries.{sum_entries}
+use Rattle.std.specs.Prelude.{sum as list_sum}
+use Rattle.std.proofs.Common.{rules}
+use Rattle.apportion.proofs.apportion.Goals.{Else-all-eq0}
 use Rattle.apportion.proofs.apportion.Goals as goal
 
 -- after the quotients a: some weight is over 0
@@ -26,27 +30,35 @@ module _ (w : List ℕ) (total all : ℕ) (a : List ℕ) (e : all ≡ sum_of w) 
     begun = begun;
   }
 
+-- the sums, in the words of the definitions
+summed : (w : List ℕ) (n : ℕ) → n ≡ list_sum w → n ≡ sum_of w
+summed w n e = e ∙ sym (sum_entries w)
+
+pub sum_of-all-requires : goal.sum_of-all-requires
+sum_of-all-requires c = omega (arith, sum_entries c.args.weights.now)
+
 pub returns-then-all-eq0 : goal.returns-then-all-eq0
 returns-then-all-eq0 c =
-    let e = sym c.sum_of-all.ensures ∙ c.if-all-eq0.true in
-    c.zeros.ensures ∙ (ap (λ (n : ℕ). replicate n 0) c.requires.0 ∙ sym (shares_zero _ _ e))
+    let e = sym (summed c.args.weights.now _ c.sum_of-all.ensures) ∙ c.if-all-eq0.true in
+    let z : c.fill.new.self ≡ replicate (length c.args.shares.now) 0 = search rules in
+    z ∙ (ap (λ (n : ℕ). replicate n 0) c.requires.0 ∙ sym (shares_zero _ _ e))
+
+some : (c : Else-all-eq0) → 0 < sum_of c.args.weights.now
+some c = omega (arith, summed c.args.weights.now _ c.sum_of-all.ensures, c.if-all-eq0.false)
 
 pub sum_of-requires : goal.sum_of-requires
 sum_of-requires c =
-    let some : 0 < sum_of c.args.weights.now = omega (arith, c.sum_of-all.ensures, c.if-all-eq0.false) in
-    omega (arith, within _ _ _ _ c.sum_of-all.ensures some c.quotients.ensures, c.ranges.total)
+    omega (arith, within _ _ _ _ (summed _ _ c.sum_of-all.ensures) (some (goal.at.sum_of-requires c).Else-all-eq0) c.quotients.ensures, sum_entries c.quotients.new.shares)
 
 pub overflow_sub-rest : goal.overflow_sub-rest
 overflow_sub-rest c =
-    let some : 0 < sum_of c.args.weights.now = omega (arith, c.sum_of-all.ensures, c.if-all-eq0.false) in
-    omega (arith, within _ _ _ _ c.sum_of-all.ensures some c.quotients.ensures, c.sum_of.ensures)
+    omega (arith, within _ _ _ _ (summed _ _ c.sum_of-all.ensures) (some (goal.at.overflow_sub-rest c).Else-all-eq0) c.quotients.ensures, summed c.quotients.new.shares _ c.sum_of.ensures)
 
 pub add_ones-requires : goal.add_ones-requires
 add_ones-requires c =
-    let some : 0 < sum_of c.args.weights.now = omega (arith, c.sum_of-all.ensures, c.if-all-eq0.false) in
-    due_here _ _ _ _ c.sum_of-all.ensures some c.quotients.ensures _ c.requires.2 c.sum_of.ensures
+    due_here _ _ _ _ (summed _ _ c.sum_of-all.ensures) (some (goal.at.add_ones-requires c).Else-all-eq0) c.quotients.ensures _ c.requires.2 (summed _ _ c.sum_of.ensures)
 
 pub returns : goal.returns
 returns c =
-    let some : 0 < sum_of c.args.weights.now = omega (arith, c.sum_of-all.ensures, c.if-all-eq0.false) in
-    c.add_ones.ensures ∙ due_shares _ _ _ _ _ (due_here _ _ _ _ c.sum_of-all.ensures some c.quotients.ensures _ c.requires.2 c.sum_of.ensures)
+    c.add_ones.ensures
+    ∙ due_shares _ _ _ _ _ (due_here _ _ _ _ (summed _ _ c.sum_of-all.ensures) (some (goal.at.returns c).Else-all-eq0) c.quotients.ensures _ c.requires.2 (summed _ _ c.sum_of.ensures))

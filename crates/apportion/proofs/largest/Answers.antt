@@ -3,43 +3,34 @@
 use Rattle.apportion.proofs.Ones.{largest_one, replaced, kept}
 use Rattle.apportion.specs.Shares.{remainder_left, largest, quotient, remainder}
 use native.Mathlib.Omega.{arith}
-use Prim.Native.Nat.{ℕ, ◌-◌}
+use Prim.Native.Nat.{ℕ}
 use mathlib.Core.Path.{ap, sym, ◌∙◌}
 use Rattle.apportion.proofs.largest.Goals.{then-most-x, else-most-x}
 use Rattle.apportion.proofs.largest.Goals as goal
 
-pub remainder_left-most-requires : goal.remainder_left-most-requires
-remainder_left-most-requires c = (omega arith, omega arith, omega arith, c.requires.3)
-
 pub loop-i-init : goal.loop-i-init
-loop-i-init c = (omega arith, sym (largest_one _ _ _), c.remainder_left-most.ensures)
-
-pub remainder_left-x-requires : goal.remainder_left-x-requires
-remainder_left-x-requires c = (omega arith, omega arith, omega arith, c.requires.3)
+loop-i-init c = (sym (largest_one _ _ _), c.remainder_left-most.ensures)
 
 pub loop-i-preserved : goal.loop-i-preserved
 loop-i-preserved c =
     let g = c.args in
-    let q = quotient g.all g.total g.weights.now in
-    let r = remainder g.all g.total g.weights.now in
+    let d = g.d.now in
+    let q = quotient d.all d.total d.weights.now in
+    let r = remainder d.all d.total d.weights.now in
     let l = c.loop-i in
     let x = c.remainder_left-x.ensures in
     elim c.if-most-x.branch [
       | then-most-x w ↦ (
-        omega arith,
-        w.part-is ∙ replaced q r g.shares.now l.i l.part l.invariant.1 (omega (arith, l.invariant.2, x, w.if-most-x.true)),
+        w.part-is ∙ replaced q r g.shares.now l.i l.part l.invariant.0 (omega (arith, l.invariant.1, x, w.if-most-x.true)),
         w.most-is ∙ (x ∙ ap (remainder_left q r g.shares.now) (sym w.part-is)),
       )
       | else-most-x w ↦ (
-        omega arith,
-        w.part-is ∙ kept q r g.shares.now l.i l.part l.invariant.1 (omega (arith, l.invariant.2, x, w.if-most-x.false)),
-        w.most-is ∙ (l.invariant.2 ∙ ap (remainder_left q r g.shares.now) (sym w.part-is)),
+        w.part-is ∙ kept q r g.shares.now l.i l.part l.invariant.0 (omega (arith, l.invariant.1, x, w.if-most-x.false)),
+        w.most-is ∙ (l.invariant.1 ∙ ap (remainder_left q r g.shares.now) (sym w.part-is)),
       )
     ]
 
 pub returns : goal.returns
 returns c =
-    let g = c.args in
-    let q = quotient g.all g.total g.weights.now in
-    let r = remainder g.all g.total g.weights.now in
-    c.loop-i.invariant.1 ∙ ap (λ (n : ℕ). largest q r g.shares.now n) (omega arith)
+    let d = c.args.d.now in
+    c.loop-i.invariant.0 ∙ ap (λ (n : ℕ). largest (quotient d.all d.total d.weights.now) (remainder d.all d.total d.weights.now) c.args.shares.now n) (omega arith)

@@ -5,26 +5,23 @@ use Rattle.finite.specs.Finite.{tabulate}
 use Rattle.apportion.specs.Shares.{quotient}
 use lib.ListN.{length, length-set}
 use native.Mathlib.Omega.{arith}
-use Prim.Native.Nat.{ℕ, ◌-◌}
+use Prim.Native.Nat.{ℕ}
 use mathlib.Core.Path.{◌≡◌, refl, ap, ◌∙◌}
 use Rattle.apportion.proofs.quotients.Goals as goal
 
 pub loop-i-init : goal.loop-i-init
 unfolding tabulate
-loop-i-init c = (omega arith, c.requires.0, refl)
-
-pub overflow_mul-shares : goal.overflow_mul-shares
-overflow_mul-shares c = record { fits = c.requires.2 c.loop-i.i c.loop-i-test.true }
+loop-i-init c = (c.requires, refl)
 
 pub loop-i-preserved : goal.loop-i-preserved
 loop-i-preserved c =
-    let g = c.args in
+    let d = c.args.d.now in
     let l = c.loop-i in
-    (simp length-set (omega arith), simp length-set l.invariant.1, filled_next (quotient g.all g.total g.weights.now) l.shares l.i _ (omega arith) l.invariant.2 refl)
+    (simp length-set l.invariant.0, filled_next (quotient d.all d.total d.weights.now) l.shares l.i _ (omega arith) l.invariant.1 refl)
 
 pub returns : goal.returns
 returns c =
-    let g = c.args in
+    let d = c.args.d.now in
     let l = c.loop-i in
-    let e : l.i ≡ length g.weights.now = omega arith in
-    filled (quotient g.all g.total g.weights.now) l.shares l.i (omega arith) l.invariant.2 ∙ ap (λ (k : ℕ). tabulate k (quotient g.all g.total g.weights.now)) e
+    let e : l.i ≡ length d.weights.now = omega arith in
+    filled (quotient d.all d.total d.weights.now) l.shares l.i (omega arith) l.invariant.1 ∙ ap (λ (k : ℕ). tabulate k (quotient d.all d.total d.weights.now)) e

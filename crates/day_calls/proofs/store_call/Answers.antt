@@ -1,6 +1,6 @@
 -- The numbers passed stand at their places, and all others as they were.
 -- Assumes nothing.
-use Prim.Native.Nat.{◌-◌, ◌*◌}
+use Prim.Native.Nat.{◌*◌}
 use mathlib.Core.Path.{refl}
 use native.Mathlib.Omega.{arith}
 use Rattle.ledger.specs.Requests.{call_numbers}
