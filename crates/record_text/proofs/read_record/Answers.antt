@@ -47,11 +47,11 @@ returns-in_err-at c =
 pub read_lines-requires : goal.read_lines-requires
 read_lines-requires c = omega (arith, c.unit_count-n.ensures, ones-le 64 c.args.units c.ranges.units.fits)
 
-pub overflow_add-place : goal.overflow_add-place
-overflow_add-place c =
+pub overflow_add-result : goal.overflow_add-result
+overflow_add-result c =
     let g = c.args in
-    let b = begun (goal.at.overflow_add-place c).In_ok-at in
-    let x = cursor.cursors_ok _ _ (sym c.in_ok-c.was ∙ read (goal.at.overflow_add-place c).After-read_lines b.1) in
+    let b = begun (goal.at.overflow_add-result c).In_ok-at in
+    let x = cursor.cursors_ok _ _ (sym c.in_ok-c.was ∙ read (goal.at.overflow_add-result c).After-read_lines b.1) in
     let w = start_within g.text.now g.start b.0 in
     omega (arith, b.1, w, ap (λ (x : Cursor). x.at) x.cursor, place_in (drop g.start g.text.now) (ones g.units) x.reading x.read, length-drop g.start g.text.now)
 
@@ -76,7 +76,7 @@ returns-in_err-c c =
     let g = c.args in
     let b = begun (goal.at.returns-in_err-c c).In_ok-at in
     let e = cursor.cursors_err _ _ (sym c.in_err-c.was ∙ read (goal.at.returns-in_err-c c).After-read_lines b.1) in
-    let p = err_from_is_err_and c.from_residual.result c.from_residual.ensures.1 in
+    let p = err_from_is_err_and c.from_residual-in_err-c.result c.from_residual-in_err-c.ensures.1 in
     rw (p.1, p.2)
     ((λ i. record { answer = answer_of g.start (sym e i); read = record_of (sym e i) g.units g.monthly })
     ∙ sym (start_good g.text.now g.start g.units g.monthly b.0))

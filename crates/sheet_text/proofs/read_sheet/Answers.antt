@@ -41,11 +41,11 @@ returns-in_err-at c =
     rw (p.1, p.2)
     (ap {B = SheetTold} (λ (r : TextRefusal). record { answer = Err r; sheet = no_sheet }) b.1 ∙ sym (start_bad c.args.text.now c.args.start b.0))
 
-pub overflow_add-place : goal.overflow_add-place
-overflow_add-place c =
+pub overflow_add-result : goal.overflow_add-result
+overflow_add-result c =
     let g = c.args in
-    let b = begun (goal.at.overflow_add-place c).In_ok-at in
-    let x = cursor.cursors_ok _ _ (sym c.in_ok-c.was ∙ read (goal.at.overflow_add-place c).After-read_lines b.1) in
+    let b = begun (goal.at.overflow_add-result c).In_ok-at in
+    let x = cursor.cursors_ok _ _ (sym c.in_ok-c.was ∙ read (goal.at.overflow_add-result c).After-read_lines b.1) in
     let w = start_within g.text.now g.start b.0 in
     omega (arith, b.1, w, ap (λ (x : Cursor). x.at) x.cursor, place_in (drop g.start g.text.now) x.reading x.read, length-drop g.start g.text.now)
 
@@ -67,6 +67,6 @@ returns-in_err-c c =
     let g = c.args in
     let b = begun (goal.at.returns-in_err-c c).In_ok-at in
     let e = cursor.cursors_err _ _ (sym c.in_err-c.was ∙ read (goal.at.returns-in_err-c c).After-read_lines b.1) in
-    let p = err_from_is_err_and c.from_residual.result c.from_residual.ensures.1 in
+    let p = err_from_is_err_and c.from_residual-in_err-c.result c.from_residual-in_err-c.ensures.1 in
     rw (p.1, p.2)
     ((λ i. record { answer = answer_of g.start (sym e i); sheet = sheet_of (sym e i) }) ∙ sym (start_good g.text.now g.start b.0))
