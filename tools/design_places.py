@@ -102,7 +102,10 @@ def items(path, text):
     text = text.split('#[cfg(test)]')[0]
     for m in re.finditer(r'^( *)(?:pub\S* )?(?:const )?(?:extern "C" )?(struct|enum|fn) (\w+)(?![^\n]*[;}]$)(.*?)^\1\}$', text, re.M | re.S):
         indent, form, name, block = m.groups()
-        owner = re.findall(r'^impl\b.*?(\w+\b)(?:<.*>)? \{$', text[:m.start()], re.M)[-1] + '.' if indent else ''
+        owner = ''
+        if indent:
+            heads = re.findall(r'^(?:pub )?(?:trait (\w+)|impl\b.*?(\w+)(?:<.*>)? \{$)', text[:m.start()], re.M)
+            owner = ''.join(heads[-1]) + '.' if heads else ''
         head, _, body = block.partition('{\n')
         start = text.count('\n', 0, m.start(4) + len(head)) + 2
         head, *clauses = re.split(r'\n\s*(?=(?:requires|ensures)\b)', head.rstrip())

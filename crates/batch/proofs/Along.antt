@@ -3,11 +3,14 @@
 use mathlib.Core.Path.{◌≡◌, refl, sym, ap, ◌∙◌, subst}
 use mathlib.Core.Bool.{Bool, true, false, cond}
 use mathlib.Core.List.{List}
+use Rattle.std.specs.Prelude.{Option, None, Some}
+use Rattle.std.proofs.lemmas.Option.{none-some}
 use Prim.Native.Nat.{ℕ, zero, suc, ◌-◌, ◌≤◌}
-use native.Mathlib.Omega.{arith}
 use lib.ListN.{length}
 use Rattle.sheet.specs.declared.Sheet.{Sheet}
 use Rattle.sheet.specs.Ranges.{sheet_holds}
+use Rattle.ledger.specs.declared.Refusal.{Refusal}
+use Rattle.ledger.specs.declared.Refusal.TheVariants.{SheetRange, BookRange}
 use Rattle.ledger.specs.Ledger.{Call}
 use Rattle.ledger.specs.Calls.{State, fits_in, carried_out, request_of, decided_on, request_decided, journal_after, outcome_of, Decision}
 use Rattle.ledger.specs.Requests.{call_at}
@@ -20,14 +23,14 @@ use Rattle.batch.specs.Batches.{refusal_at, Fit, At}
 use Rattle.single.proofs.Posted.{posted_paste}
 
 -- neither 9 nor 12
-pub none_refuses : (s : Sheet) (start : Running) → refusal_at s start ≡ 0 → (sheet_holds s ≡ true) × (fits_in s (state_of start) ≡ true)
+pub none_refuses : (s : Sheet) (start : Running) → refusal_at s start ≡ None → (sheet_holds s ≡ true) × (fits_in s (state_of start) ≡ true)
 unfolding refusal_at
 none_refuses s start = by (sheet_holds s) (fits_in s (state_of start))
   where
-    by : (t u : Bool) → cond {A = ℕ} t (cond u 0 12) 9 ≡ 0 → (t ≡ true) × (u ≡ true)
+    by : (t u : Bool) → cond {A = Option Refusal} t (cond u None (Some BookRange)) (Some SheetRange) ≡ None → (t ≡ true) × (u ≡ true)
     by true true e = (refl, refl)
-    by true false e = absurd (omega arith)
-    by false u e = absurd (omega arith)
+    by true false e = absurd (none-some BookRange (sym e))
+    by false u e = absurd (none-some SheetRange (sym e))
 
 module _ (sheet : Sheet) (calls text : List ℕ) where
   -- one turn is one call carried out

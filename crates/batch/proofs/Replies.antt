@@ -1,10 +1,12 @@
 -- An answer in its four places: storing it keeps how many places there are, and its four numbers are those of its reply.
 -- Assumes nothing.
 use Rattle.std.specs.Prelude.{Ok, Err}
-use mathlib.Core.Path.{◌≡◌, refl, ◌∙◌}
+use mathlib.Core.Path.{◌≡◌, refl, sym, ap, ◌∙◌}
 use mathlib.Core.Bool.{Bool, true, false, cond}
-use mathlib.Core.List.{List}
-use Prim.Native.Nat.{ℕ, zero, suc, ◌+◌, ◌*◌, ◌/◌}
+use mathlib.Core.List.{List, [], ◌∷◌}
+use native.Mathlib.Omega.{arith}
+use lib.Seq.{paste, paste-zero, paste-suc}
+use Prim.Native.Nat.{ℕ, zero, suc, ◌+◌, ◌*◌, ◌/◌, ◌≤◌}
 use lib.Dec.{ltb}
 use lib.ListN.{length, set, length-set}
 use Rattle.sheet.specs.declared.Sheet.{Sheet}
@@ -13,6 +15,19 @@ use Rattle.ledger.specs.declared.Effect.TheVariants.{Committed, Posted}
 use Rattle.ledger.specs.Ledger.{Reply}
 use Rattle.ledger.specs.Numbers.{reply_of, number_of, line_of, posted_of}
 use Rattle.batch.specs.Run.{Running, replied, answered, turned, ran_all}
+
+-- four numbers pasted are set one after the other
+pub four_pasted : (l : List ℕ) (at a b c d : ℕ) → at + 4 ≤ length l
+    → paste l at (a ∷ b ∷ c ∷ d ∷ []) 4 ≡ set (set (set (set l at a) (at + 1) b) (at + 2) c) (at + 3) d
+four_pasted l at a b c d h =
+    let s : List ℕ = a ∷ b ∷ c ∷ d ∷ [] in
+    let z : at + 0 ≡ at = omega arith in
+    sym (ap (λ (x : List ℕ). set (set (set (set x at a) (at + 1) b) (at + 2) c) (at + 3) d) (paste-zero l at s)
+    ∙ (ap (λ (n : ℕ). set (set (set (set (paste l at s 0) n a) (at + 1) b) (at + 2) c) (at + 3) d) (sym z)
+    ∙ (ap (λ (x : List ℕ). set (set (set x (at + 1) b) (at + 2) c) (at + 3) d) (paste-suc l at s 0 0 (omega arith) (omega arith))
+    ∙ (ap (λ (x : List ℕ). set (set x (at + 2) c) (at + 3) d) (paste-suc l at s 1 0 (omega arith) (omega arith))
+    ∙ (ap (λ (x : List ℕ). set x (at + 3) d) (paste-suc l at s 2 0 (omega arith) (omega arith))
+    ∙ paste-suc l at s 3 0 (omega arith) (omega arith))))))
 
 pub length_replied : (l : List ℕ) (i number line posted place : ℕ) → length (replied l i number line posted place) ≡ length l
 length_replied l i number line posted place = by (ltb i (length l / 4))

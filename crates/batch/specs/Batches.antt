@@ -1,6 +1,6 @@
 -- A batch of calls: what it rests on, and what it leaves. `start` is the list of places, the answers' places, the book and the count before the
 -- first call.
-use Rattle.std.specs.Prelude.{◌≡◌, cond, List, ℕ, ◌+◌, ◌*◌, ◌≤◌, ◌<◌, ℤ, length}
+use Rattle.std.specs.Prelude.{◌≡◌, cond, List, Option, None, Some, ℕ, ◌+◌, ◌*◌, ◌≤◌, ◌<◌, ℤ, length}
 use Rattle.sheet.specs.declared.Sheet.{Sheet}
 use Rattle.sheet.specs.Ranges.{sheet_holds}
 use Rattle.terms.specs.declared.DayTerms.{DayTerms}
@@ -8,6 +8,8 @@ use Rattle.state.specs.Book.{Sized}
 use Rattle.postings.specs.declared.Posting.{Posting}
 use Rattle.postings.specs.Plan.{plan_rows}
 use Rattle.postings.specs.Entries.{most_entries, entry_size, EntryRows}
+use Rattle.ledger.specs.declared.Refusal.{Refusal}
+use Rattle.ledger.specs.declared.Refusal.TheVariants.{SheetRange, BookRange}
 use Rattle.ledger.specs.Calls.{fits_in}
 use Rattle.engine.specs.Table.{Table, book_in, Long, Under}
 use Rattle.batch.specs.declared.Ran.{Ran}
@@ -15,9 +17,9 @@ use Rattle.batch.specs.declared.Batch.{Batch}
 use Rattle.single.specs.Journal.{posted}
 use Rattle.batch.specs.Run.{Running, state_of, ran_all}
 
--- "9 and 12 at every call": which of the two refuses every call of the list, 0 for none. No call leads into 12, so the first state tells
-unfoldable pub refusal_at : Sheet → Running → ℕ
-refusal_at sheet start = cond (sheet_holds sheet) (cond (fits_in sheet (state_of start)) 0 12) 9
+-- "9 and 12 at every call": which of the two refuses every call of the list, if any. No call leads into 12, so the first state tells
+unfoldable pub refusal_at : Sheet → Running → Option Refusal
+refusal_at sheet start = cond (sheet_holds sheet) (cond (fits_in sheet (state_of start)) None (Some BookRange)) (Some SheetRange)
 
 -- what is handed on, by the book's numbers
 abbrev pub ran_with : Table → (count : ℕ) → Ran
@@ -30,7 +32,7 @@ list_at sheet calls text start k = (ran_all sheet calls text start k).list
 -- a start with so many places of which neither 9 nor 12 holds
 pub record Fit (sheet : Sheet) (places : ℕ) (start : Running) : Type 0 where
   pub long : length start.list ≡ places
-  pub fits : refusal_at sheet start ≡ 0
+  pub fits : refusal_at sheet start ≡ None
   pub sized : Sized start.ran.book
 
 -- after i calls from it: the book's numbers, the count and the answers

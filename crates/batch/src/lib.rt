@@ -6,6 +6,7 @@ ghost use Rattle.engine.specs.Table.{table};
 ghost use Rattle.batch.specs.Run.{turns_of, replied};
 ghost use Rattle.batch.specs.Batches.{BatchReady, Batched};
 
+use postings::ENTRIES;
 use state::Book;
 use terms::DayTerms;
 
@@ -25,15 +26,11 @@ pub struct Batch {
 }
 
 // As many calls as there are whole groups of eight numbers, and places for four numbers of an answer.
+#[tactic(auto, unfolding(crate::specs::Run::turns_of))]
 pub fn turns(calls: usize, answers: usize) -> usize
     ensures { result ≡ turns_of calls answers }
 {
-    let groups = calls / 8;
-    let room = answers / 4;
-    if groups < room {
-        return groups;
-    }
-    room
+    (calls / 8).min(answers / 4)
 }
 
 // The four numbers of answer i, where there are places for them.
@@ -42,10 +39,7 @@ pub fn reply(answers: &mut [u64], i: usize, number: u64, line: u64, posted: u64,
 {
     if i < answers.len() / 4 {
         let at = 4 * i;
-        answers[at] = number;
-        answers[at + 1] = line;
-        answers[at + 2] = posted;
-        answers[at + 3] = place;
+        answers[at..at + 4].copy_from_slice(&[number, line, posted, place]);
     }
 }
 
@@ -53,13 +47,11 @@ pub fn reply(answers: &mut [u64], i: usize, number: u64, line: u64, posted: u64,
 fn has_room(i: usize, n: usize, filled: usize) -> bool
     ensures { result ≡ (ltb i n && ltb filled 16) }
 {
-    if n <= i {
-        return false;
-    }
-    filled < 16
+    i < n && filled < ENTRIES
 }
 
-// The calls from `first` on, carried out on the book's numbers until none is left or the rows are full.
+// The calls from `first` on, carried out on the book's numbers until none is left or the rows are full. Two tests end the loop, so a `for` over the calls
+// would be no plainer: it would leave by a `break` where the rows are full.
 pub fn run_batch(
     commitment: &mut [u64],
     mark: &mut [u64],

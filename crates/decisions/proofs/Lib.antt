@@ -1,4 +1,2 @@
 pub mod Calls
 pub mod Changes
-pub mod Rows
-pub mod Hours

@@ -1,11 +1,10 @@
 -- What a settle, restate or void rests on. The book's ranges bound the amounts that stand; the sheet's and the record's bound those of a record that was
 -- read; and what is used of the sheet in the record's hour is that of the sheet.
 -- Assumes nothing.
-use Rattle.std.specs.Prelude.{Result}
 use Rattle.lines.specs.declared.TextRefusal.{TextRefusal}
-use Rattle.std.specs.Prelude.{Ok, Err}
+use Rattle.std.specs.Prelude.{Result, Ok, Err}
 use mathlib.Core.Path.{◌≡◌, refl, sym, ◌∙◌, ap, subst}
-use mathlib.Core.Bool.{Bool, true, false, true≢false}
+use mathlib.Core.Bool.{Bool, true, false}
 use mathlib.Core.List.{List}
 use Prim.Native.Nat.{ℕ, ◌+◌, ◌-◌, ◌*◌, ◌/◌, ◌%◌, ◌≤◌, ◌<◌}
 use native.Mathlib.Omega.{arith}
@@ -41,6 +40,7 @@ use Rattle.state.specs.Ranges.{most_amount, book_holds}
 use Rattle.state.proofs.InRange.{limit_most, book_in_range}
 use Rattle.state.proofs.Writing.{hour_commitment}
 use Rattle.state.proofs.Empty.{none_amounts, none_amount}
+use Rattle.ledger.specs.declared.Refusal.{Refusal}
 use Rattle.ledger.specs.Answers.{Verdict}
 use Rattle.ledger.specs.Ledger.{given}
 use Rattle.ledger.specs.Calls.{verdict, record_tests, void_tests}
@@ -51,7 +51,7 @@ use Rattle.numbers.specs.Numbers.{hour_items, held_in}
 use Rattle.numbers.proofs.Packed.{amount_in_lem, held_is}
 use Rattle.decisions.specs.declared.HourChange.{HourChange}
 use Rattle.decisions.specs.Changes.{hour_index}
-use Rattle.decisions.specs.Hours.{hour_refused, hour_changed, change_by, void_decided, standing_row, record_decided}
+use Rattle.decisions.specs.Hours.{hour_changed, change_by, void_decided, standing_row, record_decided}
 use Rattle.decisions.proofs.Changes.{hour_lt}
 use Rattle.engine.specs.Table.{Table, book_in, Long, Under, Ready}
 use Rattle.engine.specs.Stored.{StoreReady}
@@ -108,29 +108,27 @@ due_bounded day r held due =
     })
 
 -- those of an accepted change
-accepted_bounded : (v : Verdict) (d : HourChange) (start : ℕ) → Bounded d.result.amounts → (change_by v d (hour_refused start)).accepted ≡ true
-    → Bounded (change_by v d (hour_refused start)).result.amounts
-accepted_bounded (Ok tt) d start b t = b
-accepted_bounded (Err r) d start b t = absurd (true≢false (sym t))
+accepted_bounded : (v : Verdict) (d : HourChange) → Bounded d.result.amounts → (x : HourChange) → change_by v d ≡ Ok x → Bounded x.result.amounts
+accepted_bounded (Ok tt) d b x e = subst (λ (y : HourChange). Bounded y.result.amounts) (let f : d ≡ x = cc in f) b
+accepted_bounded (Err r) d b x e = absurd (let z : ◌≡◌ {A = ℕ} 0 1 = cc in omega arith)
 
-void_bounded : (units hour : ℕ) (settled : Bool) (count room : ℕ) → let d = void_decided units hour settled count room in d.accepted ≡ true → Bounded d.result.amounts
+void_bounded : (units hour : ℕ) (settled : Bool) (count room : ℕ) (x : HourChange) → void_decided units hour settled count room ≡ Ok x → Bounded x.result.amounts
 unfolding void_decided
-void_bounded units hour settled count room =
-    accepted_bounded (verdict (void_tests units hour settled count room)) (hour_changed units hour 0 no_result 0) 0 none_bounded
+void_bounded units hour settled count room = accepted_bounded (verdict (void_tests units hour settled count room)) (hour_changed hour 0 no_result 0) none_bounded
 
-record_bounded : (day : HourSheet) (held : List HubKwh) (again settled : Bool) (start : ℕ) (a : Result ℕ TextRefusal) (r : Record) (count room : ℕ)
+record_bounded : (day : HourSheet) (held : List HubKwh) (again settled : Bool) (a : Result ℕ TextRefusal) (r : Record) (count room : ℕ)
     → ((place : ℕ) → a ≡ Ok place → HourDue day r held)
-    → let d = record_decided day held again settled start (record { answer = a; read = r }) count room in d.accepted ≡ true → Bounded d.result.amounts
+    → (x : HourChange) → record_decided day held again settled (record { answer = a; read = r }) count room ≡ Ok x → Bounded x.result.amounts
 unfolding record_decided verdict
-record_bounded day held again settled start (Ok place) r count room due =
+record_bounded day held again settled (Ok place) r count room due =
     accepted_bounded
     (verdict (record_tests day.units (proportions_by day.units day.own r) r (standing_row again settled) count room))
-    (hour_changed day.units r.hour settled_mark (hour_by day r held) place) start (due_bounded day r held (due place refl))
-record_bounded day held again settled start (Err x) r count room due = λ t. absurd (true≢false (sym t))
+    (hour_changed r.hour settled_mark (hour_by day r held) place) (due_bounded day r held (due place refl))
+record_bounded day held again settled (Err q) r count room due = λ x e. absurd (let z : ◌≡◌ {A = ℕ} 0 1 = cc in omega arith)
 
 -- what storing a change rests on
 module _ {terms : DayTerms} {offers : List ℕ} {t : Table} {rows : List ℤ} {entry count room : ℕ} (ready : Ready terms offers t rows entry count room) where
-  change_ready : (h : ℕ) (d : HourChange) → h < hours → (d.accepted ≡ true → Bounded d.result.amounts)
+  change_ready : (h : ℕ) (d : Result HourChange Refusal) → h < hours → ((x : HourChange) → d ≡ Ok x → Bounded x.result.amounts)
       → StoreReady t.mark t.energy t.amounts rows entry h d
   change_ready h d day b =
       record {
@@ -140,15 +138,15 @@ module _ {terms : DayTerms} {offers : List ℕ} {t : Table} {rows : List ℤ} {e
         amounts_long = ready.long.amounts;
         room = ready.room;
         old = amount_within ready.sheet t ready.long ready.fits;
-        new = λ a. (b a).within;
-        five = λ a. (b a).five;
+        new = λ x e. (b x e).within;
+        five = λ x e. (b x e).five;
       }
 
-  pub void_ready : (hour h : ℕ) (settled : Bool) (d : HourChange) → h ≡ hour_index hour → d ≡ void_decided terms.units hour settled count room
+  pub void_ready : (hour h : ℕ) (settled : Bool) (d : Result HourChange Refusal) → h ≡ hour_index hour → d ≡ void_decided terms.units hour settled count room
       → StoreReady t.mark t.energy t.amounts rows entry h d
   void_ready hour h settled d eh ed =
       change_ready h d (omega (arith, hour_lt hour))
-      (subst (λ (x : HourChange). x.accepted ≡ true → Bounded x.result.amounts) (sym ed)
+      (subst (λ (y : Result HourChange Refusal). (x : HourChange) → y ≡ Ok x → Bounded x.result.amounts) (sym ed)
       (void_bounded terms.units hour settled count room))
 
 -- what is at hand where a record is decided: what was read, its hour's place, and the hour's commitments, offers and sheet
@@ -217,9 +215,9 @@ module _ {terms : DayTerms} {offers : List ℕ} {t : Table} {text : List ℕ} {s
     pub record_due : (place : ℕ) → reading.answer ≡ Ok place → HourDue day reading.read held
     record_due place e = at_due ready.sheet ready.under place e ready.fits
 
-    pub record_ready : (again settled : Bool) (d : HourChange) → d ≡ record_decided day held again settled start reading count room
+    pub record_ready : (again settled : Bool) (d : Result HourChange Refusal) → d ≡ record_decided day held again settled reading count room
         → StoreReady t.mark t.energy t.amounts rows entry h d
     record_ready again settled d e =
         change_ready ready h d at_hour
-        (subst (λ (x : HourChange). x.accepted ≡ true → Bounded x.result.amounts) (sym e)
-        (record_bounded day held again settled start reading.answer reading.read count room record_due))
+        (subst (λ (y : Result HourChange Refusal). (x : HourChange) → y ≡ Ok x → Bounded x.result.amounts) (sym e)
+        (record_bounded day held again settled reading.answer reading.read count room record_due))

@@ -1,7 +1,7 @@
--- An hour stored in the lists of numbers is stored in the book: its mark, energies and amounts are the new ones. Where it is not accepted, all stays.
+-- An hour stored in the lists of numbers is stored in the book: its mark, energies and amounts are the new ones.
 -- Assumes nothing.
+use Rattle.std.specs.Prelude.{Ok}
 use mathlib.Core.Path.{◌≡◌}
-use mathlib.Core.Bool.{true, false}
 use mathlib.Core.List.{List}
 use Prim.Native.Nat.{ℕ, ◌*◌}
 use lib.IntN.{ℤ}
@@ -14,17 +14,14 @@ use Rattle.engine.specs.Table.{table}
 use Rattle.engine.specs.Stored.{Stored}
 
 module _ (units h entry : ℕ) (d : HourChange) (c m e : List ℕ) (a rows : List ℤ) where
-  pub stored_none : d.accepted ≡ false → Stored units h entry d (table c m e a) rows (table c m e a) rows
-  stored_none f = record { book = rw f; rows_are = rw f }
-
-  pub stored_done : (e' : List ℕ) (a' rows' : List ℤ) → d.accepted ≡ true
+  pub stored_done : (e' : List ℕ) (a' rows' : List ℤ)
       → rows' ≡ paste rows (hour_items * entry) (differences a h d.result.amounts) hour_items
       → amounts_of a' ≡ stored past_amounts h units d.result.amounts (amounts_of a)
       → energies_of e' ≡ stored no_grains h units d.result.energy (energies_of e)
-      → Stored units h entry d (table c m e a) rows (table c (set m h d.mark) e' a') rows'
+      → Stored units h entry (Ok d) (table c m e a) rows (table c (set m h d.mark) e' a') rows'
   unfolding with_hour
-  stored_done e' a' rows' t er ea ee =
+  stored_done e' a' rows' er ea ee =
       record {
-        book = rw t (λ i. record { commitment = commitments_of c; mark = set m h d.mark; energy = ee i; amounts = ea i });
-        rows_are = rw t er;
+        book = λ i. record { commitment = commitments_of c; mark = set m h d.mark; energy = ee i; amounts = ea i };
+        rows_are = er;
       }

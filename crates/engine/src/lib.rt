@@ -6,12 +6,13 @@ ghost use Rattle.std.specs.Prelude.{◌≡◌, List, ℕ};
 ghost use Rattle.record_text.specs.Hour.{told};
 ghost use Rattle.decisions.specs.Calls.{record_of, call_of};
 ghost use Rattle.engine.specs.Table.{table, Ready, Carried};
-ghost use Rattle.engine.specs.Stored.{Stored, StoreReady};
+ghost use Rattle.engine.specs.Stored.{Stored, StoreReady, hour_answer};
 
 use decisions::{Call, HourChange};
 use ledger::{Effect, Refusal};
 use lines::TextRefusal;
 use record_text::RecordRead;
+use settlement::HourResult;
 use terms::DayTerms;
 
 // What a call carried out answers: the answer and the text place, and the hour of what it posts.
@@ -22,7 +23,8 @@ pub struct Done {
     pub hour: u64,
 }
 
-// An accepted settle, restate or void stored in its hour, and the differences of the amounts kept in an entry of the rows.
+// An accepted settle, restate or void stored in its hour, and the differences of the amounts kept in an entry of the rows. A refused one changes
+// nothing, and its text place is `start`.
 fn store_hour(
     mark: &mut [u64],
     energy: &mut [u64],
@@ -31,29 +33,36 @@ fn store_hour(
     entry: usize,
     units: u64,
     h: usize,
-    d: HourChange,
+    decided: Result<HourChange, Refusal>,
+    start: u64,
 ) -> Done
-    requires { StoreReady mark.old energy.old amounts.old rows.old entry h d }
-    ensures value { result ≡ record { answer = d.answer; place = d.place; hour = d.hour } }
-    ensures by_index { (commitment : List ℕ) → Stored units h entry d (table commitment mark.old energy.old amounts.old) rows.old (table commitment mark.new energy.new amounts.new) rows.new }
+    requires { StoreReady mark.old energy.old amounts.old rows.old entry h decided }
+    ensures value { result ≡ hour_answer units start decided }
+    ensures by_index { (commitment : List ℕ) → Stored units h entry decided (table commitment mark.old energy.old amounts.old) rows.old (table commitment mark.new energy.new amounts.new) rows.new }
 {
-    let answer = d.answer;
-    let done = Done {
-        answer,
-        place: d.place,
-        hour: d.hour,
+    let d = match decided {
+        Ok(d) => d,
+        Err(refusal) => {
+            return Done {
+                answer: Err(refusal),
+                place: start,
+                hour: 0,
+            };
+        }
     };
-    if !d.accepted {
-        return done;
-    }
-    let result = d.result;
-    let new = result.amounts;
-    let grains = result.energy;
+    let HourResult {
+        energy: grains,
+        amounts: new,
+    } = d.result;
     numbers::differ(rows, numbers::HOUR_ITEMS * entry, amounts, h, new);
     numbers::store_amounts(amounts, h, units, new);
     numbers::store_energies(energy, h, units, grains);
     mark[h] = d.mark;
-    done
+    Done {
+        answer: Ok(Effect::Posted(5 * units::unit_count(units))),
+        place: d.place,
+        hour: d.hour,
+    }
 }
 
 // The hour of a record that was read, 0 where none was.
@@ -92,8 +101,8 @@ fn record_hour(
     let settled = mark[h] == 1;
     let held = numbers::held_in(commitment, h);
     let day = terms::hour_sheet(terms, h as u64 + 1, numbers::offers_in(offers, h));
-    let d = decisions::decide_record(day, held, again, settled, start, reading, count, places);
-    store_hour(mark, energy, amounts, rows, entry, units, h, d)
+    let decided = decisions::decide_record(day, held, again, settled, reading, count, places);
+    store_hour(mark, energy, amounts, rows, entry, units, h, decided, start)
 }
 
 // One call, on a book that is known to be in its ranges under a sheet that is in its own: it is tested, what it changes is stored, and what it posts goes
@@ -130,8 +139,8 @@ pub fn carry_out(
         }
         Call::Void(hour) => {
             let h = decisions::hour_index(hour);
-            let d = decisions::decide_void(units, hour, mark[h] == 1, count, places);
-            store_hour(mark, energy, amounts, rows, entry, units, h, d)
+            let decided = decisions::decide_void(units, hour, mark[h] == 1, count, places);
+            store_hour(mark, energy, amounts, rows, entry, units, h, decided, 0)
         }
     }
 }

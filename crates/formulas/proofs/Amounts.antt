@@ -51,8 +51,5 @@ pub small : (z : ℤ) → nat_abs z < 2 ^ 63 → to_z w64 (of_z w64 z) ≡ z
 small z h = back z (omega (arith, mag_le z))
 
 -- an amount's size is its magnitude
-pub paid_size : (n : ℕ) → nat_abs (paid n) ≡ n
-paid_size n = refl
-
 pub owed_size : (n : ℕ) → nat_abs (owed n) ≡ n
 owed_size n = nat_abs_neg (pos n)

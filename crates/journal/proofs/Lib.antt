@@ -3,3 +3,4 @@ pub mod Listed
 pub mod Stood
 pub mod Folded
 pub mod Parts
+pub mod WholeText

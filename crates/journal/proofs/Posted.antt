@@ -5,9 +5,11 @@ use Rattle.std.specs.Prelude.{Ok}
 use mathlib.Core.Path.{◌≡◌, refl, ◌∙◌, ap, sym}
 use mathlib.Core.Bool.{Bool, true, false}
 use mathlib.Core.List.{List}
-use Prim.Native.Nat.{ℕ, ◌-◌, ◌≤◌}
+use Prim.Native.Nat.{ℕ, ◌≤◌}
 use native.Mathlib.Omega.{arith}
-use lib.IntN.{ℤ}
+use lib.IntN.{ℤ, pos}
+use Rattle.std.specs.Prelude.{Option, is_some}
+use Rattle.std.specs.Option.{unwrap_or}
 use lib.ListN.{length, take}
 use Rattle.finite.proofs.Tests.{and_left, and_right}
 use Rattle.sheet.specs.declared.Sheet.{Sheet}
@@ -32,19 +34,13 @@ pub covered_le : (count len : ℕ) → covered_by count len ≤ len
 unfolding covered_by
 covered_le count len = omega arith
 
--- what fits before the postings are looked at fits after it
-pub checked_fits : (places : ℕ) (good : Bool) (b : Book) (count : ℕ) (d : CallDecision) → (d.n ≤ 640) × (d.n ≤ places - d.at)
-    → ((checked_by good b count d).n ≤ 640) × ((checked_by good b count d).n ≤ places - (checked_by good b count d).at)
-checked_fits places true b count d h = h
-checked_fits places false b count d h = (omega arith, omega arith)
-
 module _ (l : List Posting) (count : ℕ) where
   -- where the count holds, the scan sees all postings up to it
   seen_to : (unit item : ℕ) → count_holds count (length l) ≡ true → scanned_in l count unit item ≡ scanned_to l unit item count
   seen_to unit item t = ap (scanned_to l unit item) (covered_all count (length l) t)
 
-  pub seen_good : (unit item : ℕ) → count_holds count (length l) ≡ true → (scanned_in l count unit item).good ≡ posted_hold (take count l)
-  seen_good unit item t = ap (λ s. s.good) (seen_to unit item t) ∙ scan_good l unit item count (count_list count (length l) t)
+  pub seen_good : (unit item : ℕ) → count_holds count (length l) ≡ true → is_some (scanned_in l count unit item) ≡ posted_hold (take count l)
+  seen_good unit item t = ap is_some (seen_to unit item t) ∙ scan_good l unit item count (count_list count (length l) t)
 
   module _ (s : Sheet) (b : Book) where
     module _ (c : Call) (good : Bool) where
@@ -64,7 +60,7 @@ module _ (l : List Posting) (count : ℕ) where
 
     module _ (c : Call) where
       abbrev good : Bool
-      good = (scanned_in l count 0 0).good
+      good = is_some (scanned_in l count 0 0)
 
       abbrev by_scan : Decision
       by_scan = d c good
@@ -99,17 +95,18 @@ module _ (l : List Posting) (count : ℕ) where
     total_same true true true x y h = λ i. Ok (h refl i)
 
     pub total_is : (unit item : ℕ)
-        → total_decided s b unit item count (length l) (scanned_in l count unit item).good (scanned_in l count unit item).sum
+        → total_decided s b unit item count (length l) (is_some (scanned_in l count unit item)) (unwrap_or (scanned_in l count unit item) (pos 0))
         ≡ total_on s (record { book = b; count = count; journal = l }) unit item
     unfolding total_on total_decided
     total_is unit item =
-        ap (λ (f : Bool). total_by (sheet_holds s) f (item_of s unit item) (scanned_in l count unit item).sum)
-        (fits_by s b count (length l) (scanned_in l count unit item).good (posted_hold (take count l)) (seen_good unit item))
+        ap (λ (f : Bool). total_by (sheet_holds s) f (item_of s unit item) (unwrap_or (scanned_in l count unit item) (pos 0)))
+        (fits_by s b count (length l) (is_some (scanned_in l count unit item)) (posted_hold (take count l)) (seen_good unit item))
         ∙ total_same (sheet_holds s) (book_fits s b count (length l) (posted_hold (take count l))) (item_of s unit item) _ _ sums
       where
-        sums : book_fits s b count (length l) (posted_hold (take count l)) ≡ true → (scanned_in l count unit item).sum ≡ total_of unit item (take count l)
+        sums : book_fits s b count (length l) (posted_hold (take count l)) ≡ true → unwrap_or (scanned_in l count unit item) (pos 0) ≡ total_of unit item (take count l)
         sums t =
             let rest = and_right (book_holds s b) _ t in
             let counted = and_left (count_holds count (length l)) _ rest in
-            ap (λ z. z.sum) (seen_to unit item counted)
-            ∙ scan_sum l unit item count (count_list count (length l) counted) (count_most count (length l) counted) (and_right (count_holds count (length l)) _ rest)
+            ap (λ (z : Option ℤ). unwrap_or z (pos 0))
+            (seen_to unit item counted
+            ∙ scan_sum l unit item count (count_list count (length l) counted) (count_most count (length l) counted) (and_right (count_holds count (length l)) _ rest))

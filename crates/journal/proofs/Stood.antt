@@ -4,6 +4,7 @@
 use mathlib.Core.Path.{◌≡◌, refl, sym, ap, subst, ◌∙◌}
 use mathlib.Core.Bool.{Bool, cond}
 use mathlib.Core.List.{List}
+use Rattle.std.specs.Prelude.{None, Some, is_some}
 use Prim.Native.Nat.{ℕ, ◌/◌, ◌≤◌, ◌<◌}
 use lib.ListN.{length, take}
 use Rattle.sheet.specs.declared.Sheet.{Sheet}
@@ -12,6 +13,7 @@ use Rattle.state.specs.declared.Book.{Book}
 use Rattle.state.specs.Book.{Sized}
 use Rattle.postings.specs.declared.Posting.{Posting}
 use Rattle.postings.specs.Journal.{posted_hold}
+use Rattle.ledger.specs.declared.Refusal.TheVariants.{SheetRange, BookRange}
 use Rattle.ledger.proofs.Places.{fits_by}
 use Rattle.numbers.proofs.Packed.{book_same}
 use Rattle.batch.specs.declared.Ran.{Ran}
@@ -53,13 +55,13 @@ module _ (sheet : Sheet) (calls text : List ℕ) where
 
     -- where the calls start, by the scan
     abbrev pub first_stand : Stand
-    first_stand = start_stand sheet book count (length journal) (scanned_in journal count 0 0).good
+    first_stand = start_stand sheet book count (length journal) (is_some (scanned_in journal count 0 0))
 
     -- the scan tells of 12 what the definition says of it
     known : first_stand.refusal ≡ refusal_at sheet start
     unfolding refusal_at
-    known = ap (λ (t : Bool). cond (sheet_holds sheet) (cond t 0 12) 9)
-        (fits_by sheet book count (length journal) (scanned_in journal count 0 0).good (posted_hold (take count journal)) (seen_good journal count 0 0))
+    known = ap (λ (t : Bool). cond (sheet_holds sheet) (cond t None (Some BookRange)) (Some SheetRange))
+        (fits_by sheet book count (length journal) (is_some (scanned_in journal count 0 0)) (posted_hold (take count journal)) (seen_good journal count 0 0))
 
     pub stands_first : Sized book → StandsAt first_stand
     unfolding ran_all

@@ -9,58 +9,73 @@ ghost use Rattle.ledger.specs.Total.{total_on};
 ghost use Rattle.ledger.specs.Requests.{call_for, calls_in};
 ghost use Rattle.ledger.specs.Demand.{Demand};
 ghost use Rattle.single.specs.Journal.{scanned_in, posted, performed};
-ghost use Rattle.single.specs.Single.{performed_by};
+ghost use Rattle.decisions.specs.Calls.{call_of, commitment_of};
 ghost use Rattle.batch.specs.Run.{turns_of, replies_in, ran_all};
 ghost use Rattle.series.specs.Stands.{start_on, Due};
 ghost use Rattle.journal.specs.Leaves.{Leaves};
 
 use batch::Ran;
+use decisions::{Call, CommitmentCall, CommitmentKind, RecordCall};
 use ledger::{Asked, Outcome, Refusal};
-use postings::{Posting, Scanned};
+use postings::{Posting, ROWS};
 use series::Stand;
 use sheet::Sheet;
-use single::CallDecision;
 use state::Book;
 
-// The postings up to the count are looked at, those of a unit and an item added; the list stays as it is.
-fn scan(list: &mut [Posting], count: u64, unit: u64, item: u64) -> Scanned
-    ensures { (result ≡ scanned_in list.old count unit item) × (list.new ≡ list.old) }
+// The postings up to the count are looked at, and those of a unit and item added: `None` where one of them is out of its range.
+fn scan(list: &[Posting], count: u64, unit: u64, item: u64) -> Option<i64>
+    ensures { result ≡ scanned_in list.now count unit item }
 {
     let n = postings::covered(count, list.len());
-    let mut s = postings::scanned_none();
-    let mut k: usize = 0;
-    while k < n {
-        let x = list[k];
-        s = postings::scanned_with(s, x, unit, item);
-        k += 1;
+    let mut sum = postings::scanned_none();
+    for x in &list[..n] {
+        sum = postings::scanned_with(sum, *x, unit, item);
     }
-    s
+    sum
 }
 
 // The first n rows go to the places from `at` on.
-fn append(list: &mut [Posting], at: usize, rows: [Posting; 640], n: usize)
+fn append(list: &mut [Posting], at: usize, rows: &[Posting; ROWS], n: usize)
     requires { (n ≤ 640) × (n ≤ length list.old - at) }
-    ensures { list.new ≡ posted list.old at rows n }
+    ensures { list.new ≡ posted list.old at rows.now n }
 {
-    let mut k: usize = 0;
-    while k < n {
-        let x = rows[k];
-        list[at + k] = x;
-        k += 1;
+    if n > 0 {
+        list[at..at + n].copy_from_slice(&rows[..n]);
     }
 }
 
-// A call that is decided but for the postings up to the count: they are looked at, and what it posts is appended.
-fn perform(list: &mut [Posting], count: u64, book: Book, d: CallDecision) -> Outcome
-    requires { (d.n ≤ 640) × (d.n ≤ length list.old - d.at) }
-    ensures { record { outcome = result; list = list.new } ≡ performed_by list.old count book d }
+// A call on the list: it is decided but for the postings up to the count, these are looked at, and what it posts is appended.
+fn perform(
+    list: &mut [Posting],
+    count: u64,
+    sheet: Sheet,
+    book: Book,
+    text: &[u8],
+    call: Call,
+) -> Outcome
+    ensures { record { outcome = result; list = list.new } ≡ performed list.old count sheet book (call_of text.now call) }
 {
+    let d = single::decide(sheet, book, text, call, count, list.len());
     let seen = scan(list, count, 0, 0);
-    let c = single::checked(book, count, d, seen.good);
-    append(list, c.at, c.row, c.n);
+    let c = single::checked(book, count, d, seen.is_some());
+    append(list, c.at, &c.row, c.n);
     single::outcome_of(c)
 }
 
+// A take, release or move, which has no text.
+fn commit(
+    list: &mut [Posting],
+    count: u64,
+    sheet: Sheet,
+    book: Book,
+    call: CommitmentCall,
+) -> Outcome
+    ensures { record { outcome = result; list = list.new } ≡ performed list.old count sheet book (commitment_of call.kind call) }
+{
+    perform(list, count, sheet, book, b"", Call::Commitment(call))
+}
+
+// The named calls, thin functions over `perform`.
 pub fn take(
     list: &mut [Posting],
     count: u64,
@@ -72,8 +87,14 @@ pub fn take(
 ) -> Outcome
     ensures { record { outcome = result; list = list.new } ≡ performed list.old count sheet book (take_call hour unit kwh) }
 {
-    let d = single::take(sheet, book, count, list.len(), hour, unit, kwh);
-    perform(list, count, book, d)
+    let call = CommitmentCall {
+        kind: CommitmentKind::Take,
+        hour,
+        unit,
+        to: unit,
+        kwh,
+    };
+    commit(list, count, sheet, book, call)
 }
 
 pub fn release(
@@ -87,8 +108,14 @@ pub fn release(
 ) -> Outcome
     ensures { record { outcome = result; list = list.new } ≡ performed list.old count sheet book (release_call hour unit kwh) }
 {
-    let d = single::release(sheet, book, count, list.len(), hour, unit, kwh);
-    perform(list, count, book, d)
+    let call = CommitmentCall {
+        kind: CommitmentKind::Release,
+        hour,
+        unit,
+        to: unit,
+        kwh,
+    };
+    commit(list, count, sheet, book, call)
 }
 
 pub fn move_kwh(
@@ -103,8 +130,14 @@ pub fn move_kwh(
 ) -> Outcome
     ensures { record { outcome = result; list = list.new } ≡ performed list.old count sheet book (move_call hour from to kwh) }
 {
-    let d = single::move_kwh(sheet, book, count, list.len(), hour, from, to, kwh);
-    perform(list, count, book, d)
+    let call = CommitmentCall {
+        kind: CommitmentKind::Move,
+        hour,
+        unit: from,
+        to,
+        kwh,
+    };
+    commit(list, count, sheet, book, call)
 }
 
 // The hour record is read from byte `start` of the text on.
@@ -118,8 +151,13 @@ pub fn settle(
 ) -> Outcome
     ensures { record { outcome = result; list = list.new } ≡ performed list.old count sheet book (settle_call text.now start) }
 {
-    let d = single::settle(sheet, book, count, list.len(), text, start);
-    perform(list, count, book, d)
+    let call = RecordCall {
+        again: false,
+        begin: 0,
+        end: text.len() as u64,
+        start,
+    };
+    perform(list, count, sheet, book, text, Call::Record(call))
 }
 
 pub fn restate(
@@ -132,15 +170,19 @@ pub fn restate(
 ) -> Outcome
     ensures { record { outcome = result; list = list.new } ≡ performed list.old count sheet book (restate_call text.now start) }
 {
-    let d = single::restate(sheet, book, count, list.len(), text, start);
-    perform(list, count, book, d)
+    let call = RecordCall {
+        again: true,
+        begin: 0,
+        end: text.len() as u64,
+        start,
+    };
+    perform(list, count, sheet, book, text, Call::Record(call))
 }
 
 pub fn void_hour(list: &mut [Posting], count: u64, sheet: Sheet, book: Book, hour: u64) -> Outcome
     ensures { record { outcome = result; list = list.new } ≡ performed list.old count sheet book (void_call hour) }
 {
-    let d = single::void_hour(sheet, book, count, list.len(), hour);
-    perform(list, count, book, d)
+    perform(list, count, sheet, book, b"", Call::Void(hour))
 }
 
 // Any call, given in numbers.
@@ -154,8 +196,7 @@ pub fn call(
 ) -> Outcome
     ensures { record { outcome = result; list = list.new } ≡ performed list.old count sheet book (call_for text.now asked) }
 {
-    let d = single::call(sheet, book, count, list.len(), text, asked);
-    perform(list, count, book, d)
+    perform(list, count, sheet, book, text, decisions::decode(asked))
 }
 
 // The total of the postings of a unit and an item, up to the count.
@@ -188,7 +229,7 @@ fn turn(
     ensures { Leaves sheet calls.now text.now list.old list.new answers.old answers.new n stand result }
 {
     let step = series::go_on(sheet, calls, text, answers, list.len(), n, stand);
-    append(list, step.at, step.row, step.n);
+    append(list, step.at, &step.row, step.n);
     series::stand_of(step)
 }
 
@@ -206,7 +247,7 @@ pub fn run_on(
 {
     let n = batch::turns(calls.len(), answers.len());
     let seen = scan(list, count, 0, 0);
-    let mut stand = series::started(sheet, book, count, list.len(), seen.good);
+    let mut stand = series::started(sheet, book, count, list.len(), seen.is_some());
     while stand.next < n {
         stand = turn(list, sheet, calls, text, answers, n, stand);
     }

@@ -101,7 +101,7 @@ pub enum Effect {
 
 // A call in numbers, as a list of calls has it: the kind as above, where every other number asks for a void of hour 0, which is refused; and the
 // part of the lent text that the call is given, from `begin` to before `end`; a record starts at `start` in that part.
-#[derive(Clone, Copy)]
+#[derive(Clone, Copy, Default)]
 pub struct Asked {
     pub kind: u64,
     pub hour: u64,

@@ -24,12 +24,7 @@ pub struct Carried {
 pub fn own_list() -> [Posting; 2000]
     ensures { result ≡ own_list }
 {
-    [Posting {
-        hour: 0,
-        unit: 0,
-        item: 0,
-        amount: 0,
-    }; 2000]
+    [postings::no_posting(); 2000]
 }
 
 // A list of calls on any book and count.
@@ -45,10 +40,7 @@ pub fn run_on(
     ensures { record { list = result.list; answers = answers.new; ran = result.ran } ≡ ran_all sheet calls.now text.now (start_on list answers.old count book) (turns_of (length calls.now) (length answers.old)) }
 {
     let ran = journal::run_on(&mut list, count, sheet, book, calls, text, answers);
-    Carried {
-        ran: ran,
-        list: list,
-    }
+    Carried { ran, list }
 }
 
 // The total of the postings of a unit and an item, up to the count.

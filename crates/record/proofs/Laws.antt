@@ -1,4 +1,4 @@
--- What the crates above use of a record: the spans of a unit in range are all there; a record that passes refusal 31 has units of 60 minutes.
+-- A record that passes refusal 31 has units of 60 minutes.
 -- Assumes nothing.
 use mathlib.Core.Path.{◌≡◌}
 use mathlib.Core.Bool.{true}
@@ -13,10 +13,6 @@ use Rattle.record.specs.declared.Record.{Record}
 use Rattle.record.specs.Limits.{hour_minutes}
 use Rattle.record.specs.Spans.{unit_at, span_count, minutes_of, place_minutes, minutes_hold}
 use Rattle.record.specs.InRange.{UnitInRange}
-
--- the spans of a unit in range are all there
-pub spans_all : (u : UnitRecord) → UnitInRange u → span_count u ≡ u.spans
-spans_all u r = omega (arith, r.spans_most)
 
 -- a record that passes refusal 31
 pub minutes_told : (r : Record) (units k : ℕ) → minutes_hold r units ≡ true → member_at units k ≡ true → minutes_of (unit_at r k) ≡ hour_minutes

@@ -1,5 +1,6 @@
 -- What the values of a record that was read keep to (01, Hour record). `read_ranges` (proofs/Laws.antt) says that each record read does.
-use Rattle.std.specs.Prelude.{◌≡◌, true, false, ℕ, ◌≤◌, ◌<◌, IfSome}
+use Rattle.std.specs.Prelude.{◌≡◌, true, false, ℕ, ◌≤◌, ◌<◌}
+use Rattle.std.specs.Option.{ForSome}
 use Rattle.units.specs.Units.{member_at}
 use Rattle.record.specs.declared.Span.{Span}
 use Rattle.record.specs.declared.UnitRecord.{UnitRecord}
@@ -24,7 +25,7 @@ pub record UnitInRange (u : UnitRecord) : Type 0 where
   pub test : u.test.0 ≤ most_kwh
   pub deviation : u.deviation.0 ≤ most_kwh
   pub power : u.power.0 ≤ most_kwh
-  pub reading : IfSome u.reading (λ n. n.0 ≤ most_kwh)
+  pub reading : ForSome u.reading (λ n. n.0 ≤ most_kwh)
   pub since_least : 1 ≤ u.since
   pub since_most : u.since ≤ most_since
   pub repair : u.repair ≤ 1

@@ -1,13 +1,14 @@
 -- A record that was read keeps its ranges: each of its values stands in a line that keeps to its row, or is what blank means there.
 -- Assumes nothing.
-use mathlib.Core.Path.{◌≡◌, refl, subst}
+use mathlib.Core.Path.{◌≡◌, refl, subst, ap}
 use mathlib.Core.Bool.{Bool, true, false, cond}
 use mathlib.Core.List.{List}
 use Prim.Native.Nat.{ℕ, ◌+◌, ◌≤◌, ◌<◌}
 use native.Mathlib.Omega.{arith}
 use borrow.Author.Tests.{eqb-false}
 use lib.Dec.{eqb}
-use Rattle.std.specs.Prelude.{Option, Some, None, IfSome}
+use Rattle.std.specs.Prelude.{Some, None}
+use Rattle.std.specs.Option.{ForSome}
 use lib.Count.{ones}
 use lib.ListN.{get_or}
 use Rattle.finite.proofs.Tables.{get_d_tabulate}
@@ -44,15 +45,15 @@ value_in key low high b l h k keeps = by (eqb l.count 0) refl
     by false e = let n : l.count ≡ 0 → ⊥ = eqb-false _ _ e in blank_in key low high l keeps (omega arith)
 
 -- a reading is the number of its line
-reading_read : (l : Line) → value_or 0 l ≤ most_kwh → IfSome (reading_by l) (λ n. n.0 ≤ most_kwh)
+reading_read : (l : Line) → value_or 0 l ≤ most_kwh → ForSome (reading_by l) (λ n. n.0 ≤ most_kwh)
 reading_read l h = by (eqb l.count 0) h
   where
-    read : Option NetKwh
-    read = Some (record { 0 = number_of l })
+    read : NetKwh
+    read = record { 0 = number_of l }
 
-    by : (t : Bool) → cond t 0 (number_of l) ≤ most_kwh → IfSome (cond t None read) (λ n. n.0 ≤ most_kwh)
-    by true h = tt
-    by false h = h
+    by : (t : Bool) → cond t 0 (number_of l) ≤ most_kwh → ForSome (cond t None (Some read)) (λ n. n.0 ≤ most_kwh)
+    by true h = λ n e. cc
+    by false h = λ n e. let same : read ≡ n = cc in omega (arith, ap (λ (k : NetKwh). k.0) same)
 
 module _ (n : ℕ) (lines : List Line) (whole : Whole n lines) where
   head_value : (k : ℕ) (key : List ℕ) (high : ℕ) → k < head_lines → get_or head_rows k end_row ≡ blank_row key 0 high → value_or 0 (line_of lines k) ≤ high

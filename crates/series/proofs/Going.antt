@@ -3,6 +3,7 @@
 use mathlib.Core.Path.{◌≡◌, sym, ap, ◌∙◌}
 use mathlib.Core.Bool.{true}
 use mathlib.Core.List.{List}
+use Rattle.std.specs.Prelude.{None, Some}
 use Prim.Native.Nat.{ℕ, ◌+◌, ◌-◌, ◌*◌, ◌≤◌}
 use native.Mathlib.Nat.{mul-le-mul}
 use native.Mathlib.Omega.{arith}
@@ -22,6 +23,8 @@ use Rattle.postings.specs.Journal.{count_holds}
 use Rattle.postings.specs.Plan.{plan_rows}
 use Rattle.postings.specs.Entries.{most_entries, entry_size, EntryRows}
 use Rattle.postings.proofs.Counted.{count_list}
+use Rattle.ledger.specs.declared.Refusal.{Refusal}
+use Rattle.ledger.specs.Numbers.{refusal_number}
 use Rattle.numbers.specs.Offers.{OffersOf}
 use Rattle.engine.specs.Table.{Table, book_in, Long, Under}
 use Rattle.batch.specs.declared.Batch.{Batch}
@@ -35,9 +38,10 @@ use Rattle.series.proofs.Refused.{refuses_all, from_here, unchanged}
 
 module _ (sheet : Sheet) (calls text answers : List ℕ) (places n : ℕ) (st : Stand) (due : Due sheet calls text answers places n st) where
   -- every call left is refused
-  pub refused_goes : (after : List ℕ) → (st.refusal ≡ 0 → ⊥) → after ≡ refused_from calls st.refusal answers st.next (n - st.next) → Goes sheet calls text answers after places n st (refused_step st n)
+  pub refused_goes : (after : List ℕ) (r : Refusal) → st.refusal ≡ Some r → after ≡ refused_from calls (refusal_number r) answers st.next (n - st.next)
+      → Goes sheet calls text answers after places n st (refused_step st n)
   unfolding posted
-  refused_goes after some e =
+  refused_goes after r some e =
       record {
         stands = λ start long s.
             record {
@@ -55,17 +59,17 @@ module _ (sheet : Sheet) (calls text answers : List ℕ) (places n : ℕ) (st : 
     where
       here : (start : Running) → Stands sheet calls text start answers st → ran_all sheet calls text start st.next ≡ record { list = start.list; answers = answers; ran = start.ran }
       here start s =
-          unchanged sheet calls text start st.refusal (refuses_all sheet calls text start st.refusal s.known some) st.next
+          unchanged sheet calls text start (refusal_number r) (refuses_all sheet calls text start r (sym some ∙ s.known)) st.next
           ∙ ap (λ (l : List ℕ). record { list = start.list; answers = l; ran = start.ran }) s.answers_are
 
       end : (start : Running) → Stands sheet calls text start answers st
-          → ran_all sheet calls text start n ≡ record { list = start.list; answers = refused_from calls st.refusal answers st.next (n - st.next); ran = start.ran }
+          → ran_all sheet calls text start n ≡ record { list = start.list; answers = refused_from calls (refusal_number r) answers st.next (n - st.next); ran = start.ran }
       end start s =
           let z : n ≡ st.next + (n - st.next) = omega (arith, due.more) in
           ap (ran_all sheet calls text start) z
-          ∙ from_here sheet calls text start st.refusal (refuses_all sheet calls text start st.refusal s.known some) answers st.next (here start s) (n - st.next)
+          ∙ from_here sheet calls text start (refusal_number r) (refuses_all sheet calls text start r (sym some ∙ s.known)) answers st.next (here start s) (n - st.next)
 
-  module _ (none : st.refusal ≡ 0) where
+  module _ (none : st.refusal ≡ None) where
     fit_of : (start : Running) → length start.list ≡ places → Stands sheet calls text start answers st → Fit sheet places start
     fit_of start long s = record { long = long; fits = sym s.known ∙ none; sized = s.sized }
 
@@ -126,7 +130,7 @@ module _ (sheet : Sheet) (calls text answers : List ℕ) (places n : ℕ) (st : 
         count_grows = omega (arith, made.ahead.counted)
 
         pub batch_goes : (row : List Posting) (stand : Stand) → EntryRows sheet.units hours rows b.filled row
-            → stand.next ≡ st.next + b.turns → stand.refusal ≡ 0 → ran_of stand ≡ record { book = book_in t; count = b.count }
+            → stand.next ≡ st.next + b.turns → stand.refusal ≡ None → ran_of stand ≡ record { book = book_in t; count = b.count }
             → Goes sheet calls text answers after places n st (record { row = row; at = st.count; n = b.count - st.count; stand = stand })
         batch_goes row stand entries next zero ran =
             record {

@@ -3,12 +3,17 @@
 use mathlib.Core.Path.{◌≡◌, refl, sym, ap, ap₂, ◌∙◌}
 use mathlib.Core.Bool.{Bool, true, false, cond}
 use mathlib.Core.List.{List}
+use Rattle.std.specs.Prelude.{Option, None, Some}
+use Rattle.std.proofs.lemmas.Option.{none-some, same_Some}
 use Prim.Native.Nat.{ℕ, zero, suc, ◌+◌}
 use native.Mathlib.Nat.{add-zero, add-suc}
 use native.Mathlib.Numerals.{add-one}
 use native.Mathlib.Omega.{arith}
 use Rattle.sheet.specs.declared.Sheet.{Sheet}
 use Rattle.sheet.specs.Ranges.{sheet_holds}
+use Rattle.ledger.specs.declared.Refusal.{Refusal}
+use Rattle.ledger.specs.declared.Refusal.TheVariants.{SheetRange, BookRange}
+use Rattle.ledger.specs.Numbers.{refusal_number}
 use Rattle.ledger.specs.Ledger.{Call, Reply, start_of}
 use Rattle.ledger.specs.Calls.{Moved, fits_in, carried_out, request_of, decided_on, journal_after}
 use Rattle.ledger.specs.Requests.{asked_at, call_at}
@@ -52,14 +57,15 @@ module _ (sheet : Sheet) (calls text : List ℕ) where
   pub RefusesAll : Running → ℕ → Type 0
   RefusesAll start number = (c : Call) → carried_out sheet (state_of start) (request_of sheet c) ≡ refused_call number (state_of start) c
 
-  pub refuses_all : (start : Running) (number : ℕ) → number ≡ refusal_at sheet start → (number ≡ 0 → ⊥) → RefusesAll start number
+  pub refuses_all : (start : Running) (r : Refusal) → Some r ≡ refusal_at sheet start → RefusesAll start (refusal_number r)
   unfolding refusal_at RefusesAll
-  refuses_all start number e some = by (sheet_holds sheet) (fits_in sheet (state_of start)) refl refl e
+  refuses_all start r e = by (sheet_holds sheet) (fits_in sheet (state_of start)) refl refl e
     where
-      by : (t u : Bool) → sheet_holds sheet ≡ t → fits_in sheet (state_of start) ≡ u → number ≡ cond {A = ℕ} t (cond u 0 12) 9 → RefusesAll start number
-      by true true p q f = absurd (some f)
-      by true false p q f = rw f (refused_12 sheet (state_of start) p q)
-      by false u p q f = rw f (refused_9 sheet (state_of start) p)
+      by : (t u : Bool) → sheet_holds sheet ≡ t → fits_in sheet (state_of start) ≡ u
+          → Some r ≡ cond {A = Option Refusal} t (cond u None (Some BookRange)) (Some SheetRange) → RefusesAll start (refusal_number r)
+      by true true p q f = absurd (none-some r (sym f))
+      by true false p q f = rw (same_Some r BookRange f) (refused_12 sheet (state_of start) p q)
+      by false u p q f = rw (same_Some r SheetRange f) (refused_9 sheet (state_of start) p)
 
   module _ (s : Running) (number : ℕ) (all : RefusesAll s number) where
     refused_turn : (i : ℕ) → turned sheet calls text s i

@@ -1,12 +1,14 @@
 -- A list of calls under way: what its parts rest on between two calls. `start` is the list of places, the answers' places, the book and the count
 -- before the first call.
-use Rattle.std.specs.Prelude.{◌≡◌, Bool, cond, List, ℕ, zero, suc, ◌+◌, ◌-◌, ◌/◌, ◌≤◌, ◌<◌, length}
+use Rattle.std.specs.Prelude.{◌≡◌, Bool, cond, List, Option, None, Some, ℕ, zero, suc, ◌+◌, ◌-◌, ◌/◌, ◌≤◌, ◌<◌, length}
 use Rattle.sheet.specs.declared.Sheet.{Sheet}
 use Rattle.sheet.specs.Ranges.{sheet_holds}
 use Rattle.state.specs.declared.Book.{Book}
 use Rattle.state.specs.Book.{Sized}
 use Rattle.state.specs.Ranges.{kwh_of}
 use Rattle.postings.specs.declared.Posting.{Posting}
+use Rattle.ledger.specs.declared.Refusal.{Refusal}
+use Rattle.ledger.specs.declared.Refusal.TheVariants.{SheetRange, BookRange}
 use Rattle.ledger.specs.Calls.{book_fits}
 use Rattle.ledger.specs.Requests.{asked_at}
 use Rattle.numbers.specs.Numbers.{grains_of, amount_numbers}
@@ -22,8 +24,8 @@ use Rattle.batch.specs.Batches.{refusal_at, ran_with, list_at}
 
 -- which of 9 and 12 refuses every call, as `refusal_at` (crate batch), by a book, a count and a number of places, where `good` says that the postings up
 -- to the count are in their range
-abbrev pub refusal_by : Sheet → Book → (count places : ℕ) → (good : Bool) → ℕ
-refusal_by sheet b count places good = cond (sheet_holds sheet) (cond (book_fits sheet b count places good) 0 12) 9
+abbrev pub refusal_by : Sheet → Book → (count places : ℕ) → (good : Bool) → Option Refusal
+refusal_by sheet b count places good = cond (sheet_holds sheet) (cond (book_fits sheet b count places good) None (Some BookRange)) (Some SheetRange)
 
 -- the book's numbers, the book and the count
 abbrev pub table_of : Stand → Table

@@ -2,30 +2,32 @@
 // the crate above, append it.
 #![tactic(auto)]
 
-ghost use Rattle.std.specs.Prelude.{◌≡◌, ◌-◌, ◌≤◌};
+ghost use Rattle.std.specs.Prelude.{◌≡◌, ◌-◌, ◌≤◌, None};
 ghost use Rattle.series.specs.Stands.{Due, Goes, StartedAt, ran_of, refused_step, refusal_by, refused_from};
 
 use batch::Ran;
-use postings::Posting;
+use ledger::Refusal;
+use postings::{ENTRIES, Posting, ROWS};
 use sheet::Sheet;
 use state::Book;
 
-// A list of calls under way: the numbers of the book and the count after the calls before `next`, and the number of the refusal of every call, 9 or 12, or 0.
+// A list of calls under way: the numbers of the book and the count after the calls before `next`, and the refusal of every call, 9 or 12, if there is one.
 #[derive(Clone, Copy)]
 pub struct Stand {
     pub next: usize,
     pub count: u64,
-    pub refusal: u64,
+    pub refusal: Option<Refusal>,
     pub commitment: [u64; 192],
     pub mark: [u64; 24],
     pub energy: [u64; 192],
     pub amounts: [i64; 960],
 }
 
-// Some calls: where the list stands after them, and the n postings that they come to, from place `at` on.
+// Some calls: where the list stands after them, and the n postings that they come to, from place `at` on. The rows are an array with how many count,
+// since the library has no heap.
 #[derive(Clone, Copy)]
 pub struct Step {
-    pub row: [Posting; 640],
+    pub row: [Posting; ROWS],
     pub at: usize,
     pub n: usize,
     pub stand: Stand,
@@ -34,19 +36,14 @@ pub struct Step {
 pub fn stand_of(step: Step) -> Stand
     ensures { result ≡ step.stand }
 {
-    let stand = step.stand;
-    stand
+    step.stand
 }
 
 pub fn ran_of(stand: Stand) -> Ran
     ensures { result ≡ ran_of stand }
 {
-    let commitment = stand.commitment;
-    let mark = stand.mark;
-    let energy = stand.energy;
-    let amounts = stand.amounts;
     Ran {
-        book: numbers::book_by(&commitment, mark, &energy, &amounts),
+        book: numbers::book_by(&stand.commitment, stand.mark, &stand.energy, &stand.amounts),
         count: stand.count,
     }
 }
@@ -56,44 +53,39 @@ fn refuse_all(calls: &[u64], answers: &mut [u64], first: usize, n: usize, number
     requires { first ≤ n }
     ensures { answers.new ≡ refused_from calls.now number answers.old first (n - first) }
 {
-    let mut k: usize = 0;
-    while k < n - first {
-        let call = decisions::decode(decisions::asked_at(calls, first + k));
-        batch::reply(answers, first + k, number, 0, 0, decisions::start_of(call));
-        k += 1;
+    for i in first..n {
+        let call = decisions::decode(decisions::asked_at(calls, i));
+        batch::reply(answers, i, number, 0, 0, decisions::start_of(call));
     }
 }
 
-// The number of the refusal of every call, by 9 and 12.
-fn refusal_of(sheet: Sheet, book: Book, count: u64, places: usize, good: bool) -> u64
+// The refusal of every call, by 9 and 12.
+fn refusal_of(sheet: Sheet, book: Book, count: u64, places: usize, good: bool) -> Option<Refusal>
     ensures { result ≡ refusal_by sheet book count places good }
 {
     if !sheet::sheet_holds(sheet) {
-        return 9;
+        return Some(Refusal::SheetRange);
     }
     if !decisions::book_fits(sheet, book, count, places, good) {
-        return 12;
+        return Some(Refusal::BookRange);
     }
-    0
+    None
 }
 
 // The sheet, the book, the count and the postings are tested once for the whole list, and the book is unpacked.
 pub fn started(sheet: Sheet, book: Book, count: u64, places: usize, good: bool) -> Stand
     ensures { StartedAt sheet book count places good result }
 {
-    let held = book.commitment;
     let mark = book.mark;
-    let grains = book.energy;
-    let old = book.amounts;
     numbers::is_sized(book);
     Stand {
         next: 0,
         count,
         refusal: refusal_of(sheet, book, count, places, good),
-        commitment: state::kwh_of(held),
+        commitment: state::kwh_of(book.commitment),
         mark,
-        energy: numbers::grains_of(grains),
-        amounts: numbers::amount_numbers(old),
+        energy: numbers::grains_of(book.energy),
+        amounts: numbers::amount_numbers(book.amounts),
     }
 }
 
@@ -121,7 +113,7 @@ fn go_on_in_range(
     n: usize,
     stand: Stand,
 ) -> Step
-    requires { Due sheet calls.now text.now answers.old places n stand × (stand.refusal ≡ 0) }
+    requires { Due sheet calls.now text.now answers.old places n stand × (stand.refusal ≡ None) }
     ensures { Goes sheet calls.now text.now answers.old answers.new places n stand result }
 {
     let count = stand.count;
@@ -131,8 +123,8 @@ fn go_on_in_range(
     let mut mark = stand.mark;
     let mut energy = stand.energy;
     let mut amounts = stand.amounts;
-    let mut hours = [0u64; 16];
-    let mut rows = [0i64; 640];
+    let mut hours = [0u64; ENTRIES];
+    let mut rows = [0i64; ROWS];
     let b = batch::run_batch(
         &mut commitment,
         &mut mark,
@@ -157,7 +149,7 @@ fn go_on_in_range(
         stand: Stand {
             next: stand.next + b.turns,
             count: b.count,
-            refusal: 0,
+            refusal: None,
             commitment,
             mark,
             energy,
@@ -179,9 +171,11 @@ pub fn go_on(
     requires { Due sheet calls.now text.now answers.old places n stand }
     ensures { Goes sheet calls.now text.now answers.old answers.new places n stand result }
 {
-    if stand.refusal != 0 {
-        refuse_all(calls, answers, stand.next, n, stand.refusal);
-        return refused_step(stand, n);
+    match stand.refusal {
+        Some(refusal) => {
+            refuse_all(calls, answers, stand.next, n, refusal.number());
+            refused_step(stand, n)
+        }
+        None => go_on_in_range(sheet, calls, text, answers, places, n, stand),
     }
-    go_on_in_range(sheet, calls, text, answers, places, n, stand)
 }

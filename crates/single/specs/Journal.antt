@@ -1,16 +1,15 @@
 -- A call over the lent journal (01, Book and journal): what it answers and leaves, and what it appends.
-use Rattle.std.specs.Prelude.{ℕ, zero, suc, ◌+◌, List, length, get_or, set}
+use Rattle.std.specs.Prelude.{ℕ, zero, suc, ◌+◌, List, Option, ℤ, length, get_or, set}
 use Rattle.sheet.specs.declared.Sheet.{Sheet}
 use Rattle.state.specs.declared.Book.{Book}
 use Rattle.postings.specs.declared.Posting.{Posting}
-use Rattle.postings.specs.declared.Scanned.{Scanned}
 use Rattle.postings.specs.Journal.{no_posting, covered_by, scanned_to}
 use Rattle.ledger.specs.declared.Outcome.{Outcome}
 use Rattle.ledger.specs.Ledger.{Call}
 use Rattle.ledger.specs.Calls.{request_of, decided_on, journal_after, outcome_of, Decision}
 
--- what a scan sees of the first postings, none past the count, the list or 100,000: each within its bound, and the total of a unit and an item
-abbrev pub scanned_in : List Posting → (count unit item : ℕ) → Scanned
+-- what a scan sees of the first postings, none past the count, the list or 100,000: where each is within its bound, the total of a unit and an item
+abbrev pub scanned_in : List Posting → (count unit item : ℕ) → Option ℤ
 scanned_in l count unit item = scanned_to l unit item (covered_by count (length l))
 
 -- the first n rows stored one after the other from the place `at` on

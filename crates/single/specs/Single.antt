@@ -1,5 +1,5 @@
 -- One call by itself, decided in two steps: first all but the postings up to the count, then, where one of those is out of its range, 12.
-use Rattle.std.specs.Prelude.{ℕ, ◌-◌, ◌≤◌, ◌<◌, ◌≡◌, Bool, true, false, cond, List, eqb, get_or, replicate, Ok, Err}
+use Rattle.std.specs.Prelude.{ℕ, ◌-◌, ◌≤◌, ◌<◌, ◌≡◌, Bool, true, false, cond, List, eqb, is_some, get_or, replicate, Ok, Err}
 use Rattle.sheet.specs.declared.Sheet.{Sheet}
 use Rattle.state.specs.declared.Book.{Book}
 use Rattle.postings.specs.declared.Posting.{Posting}
@@ -69,5 +69,5 @@ pub record Decides (s : Sheet) (b : Book) (count places : ℕ) (c : Call) (d : C
 -- the call on the list: the postings are looked at, and the rows appended
 abbrev pub performed_by : List Posting → (count : ℕ) → Book → CallDecision → Performed
 performed_by l count b d =
-    let c = checked_by (scanned_in l count 0 0).good b count d in
+    let c = checked_by (is_some (scanned_in l count 0 0)) b count d in
     record { outcome = call_outcome c; list = posted l c.at c.row c.n }

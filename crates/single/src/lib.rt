@@ -1,26 +1,25 @@
 // Calls one at a time, over the engine: what a single call comes to. Its postings are kept in rows until the journal's functions, in a crate above, append them.
 #![tactic(auto)]
 
-ghost use Rattle.std.specs.Prelude.{◌≡◌, true, ◌&&◌, leb};
+ghost use Rattle.std.specs.Prelude.{◌≡◌, true, ◌&&◌, leb, pos, is_some};
+ghost use Rattle.std.specs.Option.{unwrap_or};
 ghost use Rattle.sheet.specs.Ranges.{sheet_holds};
-ghost use Rattle.ledger.specs.Ledger.{take as take_call, release as release_call, move as move_call, settle as settle_call, restate as restate_call, void as void_call};
 ghost use Rattle.ledger.specs.Calls.{book_fits};
 ghost use Rattle.ledger.specs.Total.{total_decided};
-ghost use Rattle.ledger.specs.Requests.{call_for};
 ghost use Rattle.decisions.specs.Calls.{call_of};
 ghost use Rattle.single.specs.Single.{no_rows, refused_call, nine_first, twelve_or9, entries_of, first_at, checked_by, call_outcome, Decides};
 
-use decisions::{Call, CommitmentCall, CommitmentKind, RecordCall};
-use ledger::{Asked, Effect, Outcome, Refusal};
-use postings::{Posting, Scanned};
+use decisions::Call;
+use ledger::{Effect, Outcome, Refusal};
+use postings::{ENTRIES, Posting, ROWS};
 use sheet::Sheet;
 use state::Book;
 
 // What one call comes to, but for the postings up to the count: n rows to be stored from place `at` on; where its record starts; the answer and the text
-// place; the count and the book after it.
+// place; the count and the book after it. The rows are an array with how many count, since the library has no heap.
 #[derive(Clone, Copy)]
 pub struct CallDecision {
-    pub row: [Posting; 640],
+    pub row: [Posting; ROWS],
     pub at: usize,
     pub n: usize,
     pub start: u64,
@@ -31,10 +30,10 @@ pub struct CallDecision {
 }
 
 // The rows that hold no posting.
-pub fn no_rows() -> [Posting; 640]
+pub fn no_rows() -> [Posting; ROWS]
     ensures { result ≡ no_rows }
 {
-    [postings::no_posting(); 640]
+    [postings::no_posting(); ROWS]
 }
 
 fn refused_call(book: Book, count: u64, start: u64, refusal: Refusal) -> CallDecision
@@ -65,10 +64,10 @@ fn twelve_or_9(answer: Result<Effect, Refusal>) -> Refusal
 fn nine_first(refusal: Refusal) -> Refusal
     ensures { result ≡ nine_first refusal }
 {
-    if let Refusal::SheetRange = refusal {
-        return Refusal::SheetRange;
+    match refusal {
+        Refusal::SheetRange => Refusal::SheetRange,
+        _ => Refusal::BookRange,
     }
-    Refusal::BookRange
 }
 
 // The decision once the postings up to the count are looked at: 12 where one is out of its range.
@@ -78,20 +77,17 @@ pub fn checked(book: Book, count: u64, d: CallDecision, good: bool) -> CallDecis
     if good {
         return d;
     }
-    let answer = d.answer;
-    refused_call(book, count, d.start, twelve_or_9(answer))
+    refused_call(book, count, d.start, twelve_or_9(d.answer))
 }
 
 pub fn outcome_of(d: CallDecision) -> Outcome
     ensures { result ≡ call_outcome d }
 {
-    let answer = d.answer;
-    let book = d.book;
     Outcome {
-        answer,
+        answer: d.answer,
         place: d.place,
         count: d.count,
-        book,
+        book: d.book,
     }
 }
 
@@ -130,15 +126,12 @@ fn decide_in_range(
     let units = sheet.units;
     let terms = terms::terms_of(sheet);
     let offers = numbers::offer_numbers(sheet);
-    let held = book.commitment;
-    let grains = book.energy;
-    let old = book.amounts;
-    let mut commitment = state::kwh_of(held);
+    let mut commitment = state::kwh_of(book.commitment);
     let mut mark = book.mark;
-    let mut energy = numbers::grains_of(grains);
-    let mut amounts = numbers::amount_numbers(old);
-    let mut hours = [0u64; 16];
-    let mut rows = [0i64; 640];
+    let mut energy = numbers::grains_of(book.energy);
+    let mut amounts = numbers::amount_numbers(book.amounts);
+    let mut hours = [0u64; ENTRIES];
+    let mut rows = [0i64; ROWS];
     let done = engine::carry_out(
         &mut commitment,
         &mut mark,
@@ -169,7 +162,7 @@ fn decide_in_range(
 }
 
 // One call on any sheet, book and count: 9, then the book's and the count's part of 12.
-fn decide(
+pub fn decide(
     sheet: Sheet,
     book: Book,
     text: &[u8],
@@ -189,138 +182,14 @@ fn decide(
     decide_in_range(sheet, book, text, call, count, places)
 }
 
-// The named calls, each by itself. A call without a record is given no text.
-pub fn take(
-    sheet: Sheet,
-    book: Book,
-    count: u64,
-    places: usize,
-    hour: u64,
-    unit: u64,
-    kwh: u64,
-) -> CallDecision
-    ensures { Decides sheet book count places (take_call hour unit kwh) result }
-{
-    let call = Call::Commitment(CommitmentCall {
-        kind: CommitmentKind::Take,
-        hour,
-        unit,
-        to: unit,
-        kwh,
-    });
-    decide(sheet, book, b"", call, count, places)
-}
-
-pub fn release(
-    sheet: Sheet,
-    book: Book,
-    count: u64,
-    places: usize,
-    hour: u64,
-    unit: u64,
-    kwh: u64,
-) -> CallDecision
-    ensures { Decides sheet book count places (release_call hour unit kwh) result }
-{
-    let call = Call::Commitment(CommitmentCall {
-        kind: CommitmentKind::Release,
-        hour,
-        unit,
-        to: unit,
-        kwh,
-    });
-    decide(sheet, book, b"", call, count, places)
-}
-
-pub fn move_kwh(
-    sheet: Sheet,
-    book: Book,
-    count: u64,
-    places: usize,
-    hour: u64,
-    from: u64,
-    to: u64,
-    kwh: u64,
-) -> CallDecision
-    ensures { Decides sheet book count places (move_call hour from to kwh) result }
-{
-    let call = Call::Commitment(CommitmentCall {
-        kind: CommitmentKind::Move,
-        hour,
-        unit: from,
-        to,
-        kwh,
-    });
-    decide(sheet, book, b"", call, count, places)
-}
-
-pub fn void_hour(sheet: Sheet, book: Book, count: u64, places: usize, hour: u64) -> CallDecision
-    ensures { Decides sheet book count places (void_call hour) result }
-{
-    decide(sheet, book, b"", Call::Void(hour), count, places)
-}
-
-pub fn settle(
-    sheet: Sheet,
-    book: Book,
-    count: u64,
-    places: usize,
-    text: &[u8],
-    start: u64,
-) -> CallDecision
-    ensures { Decides sheet book count places (settle_call text.now start) result }
-{
-    let call = Call::Record(RecordCall {
-        again: false,
-        begin: 0,
-        end: text.len() as u64,
-        start,
-    });
-    decide(sheet, book, text, call, count, places)
-}
-
-pub fn restate(
-    sheet: Sheet,
-    book: Book,
-    count: u64,
-    places: usize,
-    text: &[u8],
-    start: u64,
-) -> CallDecision
-    ensures { Decides sheet book count places (restate_call text.now start) result }
-{
-    let call = Call::Record(RecordCall {
-        again: true,
-        begin: 0,
-        end: text.len() as u64,
-        start,
-    });
-    decide(sheet, book, text, call, count, places)
-}
-
-pub fn call(
-    sheet: Sheet,
-    book: Book,
-    count: u64,
-    places: usize,
-    text: &[u8],
-    asked: Asked,
-) -> CallDecision
-    ensures { Decides sheet book count places (call_for text.now asked) result }
-{
-    decide(sheet, book, text, decisions::decode(asked), count, places)
-}
-
 fn item_known(item: u64) -> bool
     ensures { result ≡ (leb 1 item && leb item 5) }
 {
-    if item < 1 {
-        return false;
-    }
-    item <= 5
+    1 <= item && item <= 5
 }
 
 // What a total call answers, from what was seen of the postings up to the count.
+#[tactic(auto, unfolding(ledger::specs::Total::total_decided, ledger::specs::Total::total_by))]
 pub fn total_of(
     sheet: Sheet,
     book: Book,
@@ -328,12 +197,12 @@ pub fn total_of(
     item: u64,
     count: u64,
     places: usize,
-    seen: Scanned,
+    seen: Option<i64>,
 ) -> Result<i64, Refusal>
-    ensures { result ≡ total_decided sheet book unit item count places seen.good seen.sum }
+    ensures { result ≡ total_decided sheet book unit item count places (is_some seen) (unwrap_or seen (pos 0)) }
 {
-    let good = seen.good;
-    let sum = seen.sum;
+    let good = seen.is_some();
+    let sum = seen.unwrap_or(0);
     if !sheet::sheet_holds(sheet) {
         return Err(Refusal::SheetRange);
     }

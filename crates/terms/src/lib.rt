@@ -50,34 +50,18 @@ pub struct HourSheet {
 fn own_of(sheet: Sheet) -> [u64; 8]
     ensures { result ≡ tabulate 8 (λ (k : ℕ). (sheet_unit sheet.unit k).own) }
 {
-    [
-        sheet.unit[0].own,
-        sheet.unit[1].own,
-        sheet.unit[2].own,
-        sheet.unit[3].own,
-        sheet.unit[4].own,
-        sheet.unit[5].own,
-        sheet.unit[6].own,
-        sheet.unit[7].own,
-    ]
+    sheet.unit.map(|u| u.own)
 }
 
 // Each unit's nominal power.
 fn nominal_of(sheet: Sheet) -> [GrossKwh; 8]
     ensures { result ≡ tabulate 8 (λ (k : ℕ). (sheet_unit sheet.unit k).nominal) }
 {
-    let mut nominal = [GrossKwh(0); 8];
-    let mut k: usize = 0;
-    while k < 8 {
-        let u = sheet.unit[k];
-        let its = u.nominal;
-        nominal[k] = its;
-        k += 1;
-    }
-    nominal
+    sheet.unit.map(|u| u.nominal)
 }
 
 // What a day's settlements use of the sheet.
+#[tactic(auto, unfolding(crate::specs::Terms::terms_of))]
 pub fn terms_of(sheet: Sheet) -> DayTerms
     ensures { result ≡ terms_of sheet }
 {
@@ -101,8 +85,6 @@ pub fn hour_sheet(terms: DayTerms, hour: u64, offer: [Offer; 8]) -> HourSheet
     ensures { result ≡ hour_terms terms hour offer }
 {
     let h = (hour - 1) as usize;
-    let own = terms.own;
-    let nominal = terms.nominal;
     HourSheet {
         rates: Rates {
             season: terms.season,
@@ -112,8 +94,8 @@ pub fn hour_sheet(terms: DayTerms, hour: u64, offer: [Offer; 8]) -> HourSheet
         },
         ceiling: terms.ceiling,
         units: terms.units,
-        own,
-        nominal,
+        own: terms.own,
+        nominal: terms.nominal,
         offer,
     }
 }

@@ -42,4 +42,4 @@ module _ (l : List ℕ) (begin end first last : ℕ) (el : last ≡ min end (len
 
 pub returns : goal.returns
 unfolding part_of
-returns c = clipped c.args.text.now _ _ _ _ c.least-last.ensures c.least-first.ensures
+returns c = clipped c.args.text.now _ _ _ _ c.min-last.ensures c.min-first.ensures

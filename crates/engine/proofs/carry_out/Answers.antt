@@ -11,7 +11,7 @@ pub store_hour-requires : goal.store_hour-requires
 store_hour-requires c =
     void_ready c.requires _ _ _ _
     c.hour_index-h.ensures.value
-    c.decide_void-d.ensures
+    c.decide_void-decided.ensures
 
 pub returns-in-Commitment : goal.returns-in-Commitment
 returns-in-Commitment c =
@@ -32,6 +32,6 @@ returns-in-Void c =
     rw c.in-Void.is
     (void_carried c.requires _ _ _ _ _ _
     c.hour_index-h.ensures.value
-    c.decide_void-d.ensures
+    c.decide_void-decided.ensures
     (c.store_hour.ensures.by_index _)
     c.store_hour.ensures.value)

@@ -3,19 +3,29 @@
 -- Assumes nothing.
 use Rattle.engine.proofs.HourReady.{hour_at, record_due, record_ready}
 use Rattle.engine.proofs.HourDecided.{record_carried}
-use mathlib.Core.Path.{ap, ◌∙◌}
+use mathlib.Core.Path.{◌≡◌, ap, subst, ◌∙◌}
+use Prim.Native.Nat.{ℕ}
+use Rattle.std.specs.Prelude.{Result, Ok}
+use Rattle.lines.specs.declared.TextRefusal.{TextRefusal}
+use Rattle.record.specs.declared.Record.{Record}
+use Rattle.record_text.specs.declared.RecordRead.{RecordRead}
+use Rattle.record_text.specs.Hour.{told}
 use Rattle.decisions.specs.Changes.{hour_index}
 use Rattle.engine.proofs.record_hour.Goals as goal
 
-pub decide_record-d-requires : goal.decide_record-d-requires
-decide_record-d-requires c =
-    record_due
+-- a record that was read, told by its place
+due_read : {P : Record → Type 0} {x : Result RecordRead TextRefusal} → ((place : ℕ) → (told x).answer ≡ Ok place → P (told x).read) → (r : RecordRead) → x ≡ Ok r → P r.read
+due_read {P} {x} f r e = subst P (ap (λ (z : Result RecordRead TextRefusal). (told z).read) e) (f r.place (ap (λ (z : Result RecordRead TextRefusal). (told z).answer) e))
+
+pub decide_record-decided-requires : goal.decide_record-decided-requires
+decide_record-decided-requires c =
+    due_read (record_due
     (hour_at c.read_record-reading.ensures
     (c.hour_index-h.ensures.value ∙ ap hour_index c.hour_of.ensures)
     c.held_in-held.ensures
     c.offers_in.ensures
     c.hour_sheet-day.ensures)
-    c.requires
+    c.requires)
 
 pub store_hour-requires : goal.store_hour-requires
 store_hour-requires c =
@@ -26,7 +36,7 @@ store_hour-requires c =
     c.offers_in.ensures
     c.hour_sheet-day.ensures)
     c.requires _ _ _
-    c.decide_record-d.ensures
+    c.decide_record-decided.ensures
 
 pub returns : goal.returns
 returns c =
@@ -37,6 +47,6 @@ returns c =
     c.held_in-held.ensures
     c.offers_in.ensures
     c.hour_sheet-day.ensures) _
-    c.decide_record-d.ensures
+    c.decide_record-decided.ensures
     (c.store_hour.ensures.by_index _)
     c.store_hour.ensures.value

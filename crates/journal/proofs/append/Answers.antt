@@ -1,27 +1,23 @@
--- After k turns the first k rows are stored.
--- Assumes nothing.
-use mathlib.Core.Path.{refl, ap, ◌∙◌}
-use Prim.Native.Nat.{ℕ, ◌+◌}
-use mathlib.Core.List.{List}
-use lib.ListN.{get_or, set}
-use native.Mathlib.Numerals.{add-one}
-use native.Mathlib.Omega.{arith}
-use Rattle.postings.specs.declared.Posting.{Posting}
+-- The rows copied are the rows stored one after the other.
+use Rattle.std.proofs.Common.{◌≡◌, sym, ◌∙◌, ap, ℕ, arith, length, take}
+use Rattle.std.proofs.lemmas.Slice.{put_mid-paste}
+use lib.Seq.{length-take-le, get_or-take}
 use Rattle.postings.specs.Journal.{no_posting}
 use Rattle.single.specs.Journal.{posted}
+use Rattle.single.proofs.Posted.{posted_paste, posted_same}
 use Rattle.journal.proofs.append.Goals as goal
 
-pub loop-k-init : goal.loop-k-init
-unfolding posted
-loop-k-init c = (omega arith, refl)
+pub returns-then-n-gt0 : goal.returns-then-n-gt0
+returns-then-n-gt0 c =
+    let a = c.args in
+    let rows = take a.n a.rows.now in
+    let long : length rows ≡ a.n = length-take-le a.n a.rows.now (omega arith) in
+    put_mid-paste _ _ _ _ rows a.n c.copy_from_slice.ensures.after (omega arith) (sym long)
+    ∙ (sym (posted_paste a.list.now a.at rows a.n c.requires.1 (omega (arith, long)))
+    ∙ posted_same a.list.now a.at rows a.rows.now a.n (λ k below. get_or-take a.n a.rows.now k no_posting below))
 
-pub loop-k-preserved : goal.loop-k-preserved
+pub returns-else-n-gt0 : goal.returns-else-n-gt0
 unfolding posted
-loop-k-preserved c =
-    let l = c.loop-k in
-    (omega arith, rw add-one (ap (λ (x : List Posting). set x (c.args.at + l.k) (get_or c.args.rows l.k no_posting)) l.invariant.1))
-
-pub returns : goal.returns
-returns c =
-    let l = c.loop-k in
-    l.invariant.1 ∙ ap (λ (k : ℕ). posted c.args.list.now c.args.at c.args.rows k) (omega arith)
+returns-else-n-gt0 c =
+    let e : 0 ≡ c.args.n = omega arith in
+    ap (λ (n : ℕ). posted c.args.list.now c.args.at c.args.rows.now n) e

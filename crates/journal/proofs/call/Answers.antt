@@ -1,11 +1,12 @@
--- What is decided fits the list, and performed it is the call.
--- Assumes nothing.
-use mathlib.Core.Path.{◌∙◌}
-use Rattle.journal.proofs.Posted.{decides_performed}
+-- The call that the numbers ask for is the one that they are decoded to.
+use mathlib.Core.Path.{ap, ◌∙◌}
+use Rattle.decisions.specs.Calls.{call_of}
+use Rattle.decisions.proofs.Calls.{decoded_is}
+use Rattle.single.specs.Journal.{performed}
 use Rattle.journal.proofs.call.Goals as goal
 
-pub perform-requires : goal.perform-requires
-perform-requires c = (c.call-d.ensures.few, c.call-d.ensures.free)
-
 pub returns : goal.returns
-returns c = c.perform.ensures ∙ decides_performed _ _ _ _ _ _ c.call-d.ensures
+returns c =
+    let a = c.args in
+    c.perform.ensures
+    ∙ ap (performed a.list.now a.count a.sheet a.book) (ap (call_of a.text.now) c.decode.ensures ∙ decoded_is a.text.now a.asked)

@@ -1,18 +1,14 @@
--- The scan leaves the list as it is; what is checked is then appended, and what fitted before it fits after it.
--- Assumes nothing.
-use mathlib.Core.Path.{sym, subst}
-use Prim.Native.Nat.{◌≤◌, ◌-◌}
-use lib.ListN.{length}
-use Rattle.single.specs.declared.CallDecision.{CallDecision}
-use Rattle.journal.proofs.Posted.{checked_fits}
+-- What is checked is appended, and what fitted before it fits after it.
+use mathlib.Core.Path.{ap, ◌∙◌}
+use mathlib.Core.Bool.{Bool}
+use Rattle.single.specs.Single.{checked_by}
+use Rattle.journal.proofs.Posted.{decides_performed}
 use Rattle.journal.proofs.Parts.{performed_parts}
 use Rattle.journal.proofs.perform.Goals as goal
 
-pub append-requires : goal.append-requires
-append-requires c =
-    let a = c.args in
-    subst (λ (d : CallDecision). (d.n ≤ 640) × (d.n ≤ length c.scan-seen.new.list - d.at)) (sym c.checked-c.ensures)
-    (rw c.scan-seen.ensures.1 (checked_fits (length a.list.now) c.scan-seen.result.good a.book a.count a.d c.requires))
-
 pub returns : goal.returns
-returns c = performed_parts _ _ _ _ _ _ _ _ _ c.scan-seen.ensures c.checked-c.ensures c.append.ensures c.outcome_of.ensures
+returns c =
+    let a = c.args in
+    performed_parts _ _ _ _ _ _ _ _ c.scan-seen.ensures
+    (c.checked-c.ensures ∙ ap (λ (t : Bool). checked_by t a.book a.count c.decide-d.result) c.is_some.ensures) c.append.ensures c.outcome_of.ensures
+    ∙ decides_performed _ _ _ _ _ _ c.decide-d.ensures

@@ -1,11 +1,13 @@
--- What is decided fits the list, and performed it is the call.
--- Assumes nothing.
-use mathlib.Core.Path.{◌∙◌}
-use Rattle.journal.proofs.Posted.{decides_performed}
+-- The part of the text from its first byte to its last is the text.
+use mathlib.Core.Path.{ap, ◌∙◌}
+use mathlib.Core.List.{List}
+use Prim.Native.Nat.{ℕ}
+use Rattle.ledger.specs.Ledger.{restate}
+use Rattle.single.specs.Journal.{performed}
+use Rattle.journal.proofs.WholeText.{whole_text}
 use Rattle.journal.proofs.restate.Goals as goal
 
-pub perform-requires : goal.perform-requires
-perform-requires c = (c.restate-d.ensures.few, c.restate-d.ensures.free)
-
 pub returns : goal.returns
-returns c = c.perform.ensures ∙ decides_performed _ _ _ _ _ _ c.restate-d.ensures
+returns c =
+    let a = c.args in
+    c.perform.ensures ∙ ap (λ (t : List ℕ). performed a.list.now a.count a.sheet a.book (restate t a.start)) (whole_text a.text.now)

@@ -1,8 +1,8 @@
 -- The promise about every list of calls holds of what `run_on` leaves: proofs/Listed.antt.
 -- Assumes nothing.
-use mathlib.Core.Path.{sym, subst, ap, ◌∙◌}
+use mathlib.Core.Path.{ap, ◌∙◌}
 use Rattle.state.specs.declared.Book.{Book}
-use Rattle.batch.specs.Run.{Running, ran_all, turns_of}
+use Rattle.batch.specs.Run.{ran_all, turns_of}
 use Rattle.series.specs.Stands.{start_on}
 use lib.ListN.{length}
 use Rattle.journal.proofs.Listed.{run_demand, turns_room}

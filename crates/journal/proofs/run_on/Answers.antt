@@ -1,12 +1,10 @@
 -- From turn to turn the list, the answers and the numbers of the book are those after the calls so far: proofs/Stood.antt.
 -- Assumes nothing.
-use mathlib.Core.Path.{◌≡◌, refl, sym, subst, ap, ◌∙◌}
+use mathlib.Core.Path.{◌≡◌, refl, sym, subst, ◌∙◌}
 use native.Mathlib.Omega.{arith}
 use lib.ListN.{length}
 use Rattle.series.specs.declared.Stand.{Stand}
-use Rattle.batch.specs.Run.{ran_all, turns_of}
-use Rattle.batch.specs.Batches.{list_at}
-use Rattle.batch.specs.declared.Ran.{Ran}
+use Rattle.batch.specs.Run.{ran_all}
 use Rattle.journal.proofs.Listed.{turns_room}
 use Rattle.journal.proofs.Stood.{first_stand, stands_first, due_next, turn_leaves, all_ran}
 use Rattle.journal.proofs.run_on.Invariants.{AfterCalls}
@@ -18,15 +16,15 @@ loop-stand-init c =
     let a = c.args in
     let s = c.started-stand.ensures in
     let first : Stand = first_stand a.sheet a.calls.now a.text.now a.list.now a.answers.now a.count a.book in
-    let e : c.started-stand.result ≡ first = s.is ∙ rw (c.scan-seen.ensures.1, c.scan-seen.ensures.0) refl in
-    let begin : AfterCalls a.sheet a.calls.now a.text.now a.list.now a.answers.now a.count a.book c.turns-n.result c.scan-seen.new.list a.answers.now first
+    let e : c.started-stand.result ≡ first = s.is ∙ rw (c.is_some.ensures, c.scan-seen.ensures) refl in
+    let begin : AfterCalls a.sheet a.calls.now a.text.now a.list.now a.answers.now a.count a.book c.turns-n.result a.list.now a.answers.now first
     = record {
-      list_is = c.scan-seen.ensures.1;
+      list_is = refl;
       answers_are = refl;
       stands = stands_first a.sheet a.calls.now a.text.now a.list.now a.answers.now a.count a.book s.sized;
       most = omega arith;
     } in
-    subst (λ (st : Stand). AfterCalls a.sheet a.calls.now a.text.now a.list.now a.answers.now a.count a.book c.turns-n.result c.scan-seen.new.list a.answers.now st) (sym e) begin
+    subst (λ (st : Stand). AfterCalls a.sheet a.calls.now a.text.now a.list.now a.answers.now a.count a.book c.turns-n.result a.list.now a.answers.now st) (sym e) begin
 
 pub turn-stand-requires : goal.turn-stand-requires
 turn-stand-requires c =

@@ -1,7 +1,9 @@
--- The scan sees the postings up to the count, and leaves the list as it is.
--- Assumes nothing.
-use Rattle.journal.proofs.Parts.{total_parts}
+-- The scan sees the postings up to the count.
+use mathlib.Core.Path.{refl}
+use Rattle.journal.proofs.Posted.{total_is}
 use Rattle.journal.proofs.total.Goals as goal
 
 pub returns : goal.returns
-returns c = (total_parts _ _ _ _ _ _ _ _ _ c.scan-seen.ensures c.total_of.ensures, c.scan-seen.ensures.1)
+returns c =
+    let a = c.args in
+    (rw (c.total_of.ensures, c.scan-seen.ensures) (total_is a.list.now a.count a.sheet a.book a.unit a.item), refl)

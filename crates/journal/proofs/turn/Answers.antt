@@ -1,6 +1,5 @@
 -- What the calls leave and what is appended, taken together: the law is in proofs/Stood.antt.
 -- Assumes nothing.
-use mathlib.Core.Path.{sym, subst}
 use Rattle.journal.proofs.Stood.{stood}
 use Rattle.journal.proofs.turn.Goals as goal
 

@@ -1,9 +1,9 @@
--- It is the definition.
--- Assumes nothing.
+-- Each place holds no posting.
+use mathlib.Core.Path.{ap}
+use lib.ListN.{replicate}
 use Rattle.own_journal.specs.Own.{own_list}
-use borrow.Author.Rules.{rules}
 use Rattle.own_journal.proofs.own_list.Goals as goal
 
 pub returns : goal.returns
 unfolding own_list
-returns c = search rules
+returns c = ap (replicate 2000) c.no_posting.ensures

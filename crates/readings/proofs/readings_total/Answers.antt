@@ -4,7 +4,8 @@ use mathlib.Core.Path.{◌≡◌, refl, ap, ◌∙◌}
 use mathlib.Core.Bool.{Bool, true, false, cond}
 use Prim.Native.Nat.{ℕ, ◌≤◌}
 use native.Mathlib.Omega.{arith}
-use Rattle.std.specs.Prelude.{Option, Some, None, IfSome, unwrap_or}
+use Rattle.std.specs.Prelude.{Option, Some, None, unwrap_or}
+use Rattle.std.specs.Option.{ForSome}
 use Rattle.finite.specs.Finite.{sum}
 use Rattle.finite.proofs.Sums.{sum_next}
 use Rattle.energy.specs.declared.NetKwh.{NetKwh}
@@ -18,9 +19,9 @@ use Rattle.readings.proofs.readings_total.Goals as goal
 reading_most : (r : Record) (units : ℕ) → InRange units r → (k : ℕ) → cond (member_at units k) (reading_of (unit_at r k)) 0 ≤ 1000000
 reading_most r units h k = by (member_at units k) refl
   where
-    of : (n : Option NetKwh) → IfSome n (λ n. n.0 ≤ 1000000) → (unwrap_or n (record { 0 = 0 })).0 ≤ 1000000
+    of : (n : Option NetKwh) → ForSome n (λ n. n.0 ≤ 1000000) → (unwrap_or n (record { 0 = 0 })).0 ≤ 1000000
     of None h = omega arith
-    of (Some n) h = h
+    of (Some n) h = h n refl
 
     by : (t : Bool) → member_at units k ≡ t → cond t (reading_of (unit_at r k)) 0 ≤ 1000000
     by true e = of (unit_at r k).reading (h.unit k e).reading

@@ -2,7 +2,6 @@
 -- Assumes nothing.
 use mathlib.Core.Path.{refl, sym}
 use native.Mathlib.Omega.{arith}
-use lib.ListN.{length-map}
 use Rattle.engine.specs.Table.{Long}
 use Rattle.series.specs.Stands.{table_of}
 use Rattle.series.proofs.Going.{units_most, batch_ready, count_grows, batch_goes}

@@ -1,39 +1,35 @@
--- After k calls the answers are those of k refused calls. The measure is the number of calls left.
--- Assumes nothing.
-use mathlib.Core.Path.{◌≡◌, refl, ap, ◌∙◌}
-use Prim.Native.Nat.{◌-◌}
+-- After the calls below i the answers are those of so many refused calls.
+use mathlib.Core.Path.{◌≡◌, ap, ◌∙◌}
+use Prim.Native.Nat.{ℕ, ◌+◌, ◌-◌}
 use native.Mathlib.Omega.{arith}
-use lib.ListN.{length}
+use Rattle.ledger.specs.Requests.{asked_at}
 use Rattle.decisions.specs.Calls.{decoded, call_start}
+use Rattle.batch.specs.Run.{replied}
 use Rattle.series.specs.Stands.{refused_from}
 use Rattle.series.proofs.Refused.{refused_next}
-use Rattle.batch.proofs.Replies.{length_replied}
 use Rattle.series.proofs.refuse_all.Goals as goal
 
-pub loop-k-init : goal.loop-k-init
+pub loop-i-init : goal.loop-i-init
 unfolding refused_from
-loop-k-init c = (omega arith, refl, refl)
+loop-i-init c =
+    let a = c.args in
+    let z : 0 ≡ a.first - a.first = omega arith in
+    ap (refused_from a.calls.now a.number a.answers.now a.first) z
 
-pub overflow_add-first : goal.overflow_add-first
-overflow_add-first c = omega (arith, c.ranges.n.fits)
-
-pub overflow_add-first-in-loop-k : goal.overflow_add-first-in-loop-k
-overflow_add-first-in-loop-k c = omega (arith, c.loop-k-test.true, c.ranges.n.fits)
-
-pub overflow_add-k : goal.overflow_add-k
-overflow_add-k c = omega (arith, c.loop-k-test.true, c.ranges.n.fits)
-
-pub loop-k-smaller : goal.loop-k-smaller
-loop-k-smaller c = omega (arith, c.loop-k-test.true)
-
-pub loop-k-preserved : goal.loop-k-preserved
-loop-k-preserved c = (
-  omega (arith, c.loop-k-test.true),
-  ap length c.reply.ensures ∙ (length_replied c.loop-k.answers _ _ _ _ _ ∙ c.loop-k.invariant.1),
-  refused_next _ _ _ _ c.loop-k.k _ _ _ c.loop-k.invariant.2 (c.start_of.ensures ∙ ap call_start (c.decode-call.ensures ∙ ap decoded c.asked_at.ensures)) c.reply.ensures,
-)
+pub loop-i-preserved : goal.loop-i-preserved
+loop-i-preserved c =
+    let a = c.args in
+    let l = c.loop-i in
+    let e : l.i ≡ a.first + (l.i - a.first) = omega arith in
+    let m : l.i - a.first + 1 ≡ l.i + 1 - a.first = omega arith in
+    let place = c.start_of.ensures ∙ ap call_start (c.decode-call.ensures ∙ ap decoded c.asked_at.ensures) in
+    refused_next a.calls.now a.number a.answers.now a.first (l.i - a.first) l.answers _ _ l.invariant
+    (place ∙ ap (λ (n : ℕ). call_start (decoded (asked_at a.calls.now n))) e)
+    (c.reply.ensures ∙ ap (λ (n : ℕ). replied l.answers n a.number 0 0 c.start_of.result) e)
+    ∙ ap (refused_from a.calls.now a.number a.answers.now a.first) m
 
 pub returns : goal.returns
 returns c =
-    let e : c.loop-k.k ≡ c.args.n - c.args.first = omega (arith, c.loop-k-test.false, c.loop-k.invariant.0) in
-    c.loop-k.invariant.2 ∙ ap (refused_from c.args.calls.now c.args.number c.args.answers.now c.args.first) e
+    let a = c.args in
+    let e : c.loop-i.i - a.first ≡ a.n - a.first = omega arith in
+    c.loop-i.invariant ∙ ap (refused_from a.calls.now a.number a.answers.now a.first) e

@@ -43,5 +43,5 @@ pub returns-in-SheetRange : goal.returns-in-SheetRange
 unfolding nine_first
 returns-in-SheetRange c = sym (ap nine_first c.in-SheetRange.is)
 
-pub returns : goal.returns
-returns c = twelve c.args.refusal c.in_default.not-SheetRange
+pub returns-in_default : goal.returns-in_default
+returns-in_default c = twelve c.args.refusal c.in_default.not-SheetRange

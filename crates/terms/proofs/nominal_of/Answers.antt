@@ -1,30 +1,10 @@
--- The loop's invariant: the places passed have their unit's.
+-- Each unit's by a map over the units.
 -- Assumes nothing.
-use mathlib.Core.Path.{◌≡◌, refl, ◌∙◌, ap}
-use Prim.Native.Nat.{ℕ, ◌-◌}
-use native.Mathlib.Omega.{arith}
-use lib.ListN.{length-set}
-use Rattle.finite.specs.Finite.{tabulate}
-use Rattle.finite.proofs.Tables.{filled_next, filled}
-use Rattle.energy.specs.declared.GrossKwh.{GrossKwh}
-use Rattle.sheet.specs.Ranges.{unit_at}
+use Rattle.std.proofs.Common.{rules}
+use Rattle.finite.proofs.Chains.{tabulate_map}
+use Rattle.sheet.specs.declared.UnitSheet.{UnitSheet}
+use Rattle.sheet.specs.Ranges.{past_unit}
 use Rattle.terms.proofs.nominal_of.Goals as goal
 
-pub loop-k-init : goal.loop-k-init
-unfolding tabulate
-loop-k-init c = (omega arith, refl, refl)
-
-pub loop-k-preserved : goal.loop-k-preserved
-loop-k-preserved c =
-    let a = c.args in
-    let l = c.loop-k in
-    let f : ℕ → GrossKwh = λ i. (unit_at a.sheet.unit i).nominal in
-    (omega arith, simp length-set l.invariant.1, filled_next f l.nominal l.k _ (omega arith) l.invariant.2 refl)
-
 pub returns : goal.returns
-returns c =
-    let a = c.args in
-    let l = c.loop-k in
-    let f : ℕ → GrossKwh = λ i. (unit_at a.sheet.unit i).nominal in
-    let e : l.k ≡ 8 = omega arith in
-    filled f l.nominal l.k (omega arith) l.invariant.2 ∙ ap (λ (n : ℕ). tabulate n f) e
+returns c = tabulate_map (λ (u : UnitSheet). u.nominal) _ _ _ past_unit c.map.ensures.items (λ x y q k. search rules)

@@ -1,9 +1,10 @@
--- Each entry is its unit's.
+-- Each unit's by a map over the units.
 -- Assumes nothing.
-use mathlib.Core.Path.{refl}
-use Rattle.finite.specs.Finite.{tabulate}
+use Rattle.std.proofs.Common.{rules}
+use Rattle.finite.proofs.Chains.{tabulate_map}
+use Rattle.sheet.specs.declared.UnitSheet.{UnitSheet}
+use Rattle.sheet.specs.Ranges.{past_unit}
 use Rattle.terms.proofs.own_of.Goals as goal
 
 pub returns : goal.returns
-unfolding tabulate
-returns c = refl
+returns c = tabulate_map (λ (u : UnitSheet). u.own) _ _ _ past_unit c.map.ensures.items (λ x y q k. search rules)

@@ -7,11 +7,11 @@ use Rattle.formulas.specs.Items.{kinds}
 use Rattle.deviation.specs.Deviation.{proportions}
 use Rattle.deviation.specs.Proportions.{no_proportion}
 use Rattle.deviation.proofs.Weights.{proportion_at}
-use Rattle.deviation.proofs.no_proportion.Goals as goal
+use Rattle.deviation.proofs.Unit.no_proportion.Goals as goal
 
 pub returns : goal.returns
 unfolding no_proportion
 returns c =
     let a = c.args in
-    every_slice (λ (n : ℕ). eqb n 0) (proportions a.own a.u) kinds 0 _ (search rules) (search rules) c.all.ensures.ran (λ x y q k. search rules)
-    ∙ every_same kinds _ _ (λ j l. ap (λ (n : ℕ). eqb n 0) (proportion_at a.own a.u c.requires.1 j l))
+    every_slice (λ (n : ℕ). eqb n 0) (proportions a.self.own a.self.hour) kinds 0 _ (search rules) (search rules) c.all.ensures.ran (λ x y q k. search rules)
+    ∙ every_same kinds _ _ (λ j l. ap (λ (n : ℕ). eqb n 0) (proportion_at a.self.own a.self.hour c.args.self.in_range.1 j l))
