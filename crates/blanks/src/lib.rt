@@ -25,7 +25,10 @@ pub fn value_or(line: &Line, blank: u64) -> u64
 fn reading_by(line: &Line) -> Option<NetKwh>
     ensures { result ≡ reading_by line.now }
 {
-    if line.count == 0 { None } else { Some(NetKwh(line.number[0])) }
+    if line.count == 0 {
+        return None;
+    }
+    Some(NetKwh(line.number[0]))
 }
 
 // The span of place i in a line, of a unit with that declared capability.

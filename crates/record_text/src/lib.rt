@@ -32,7 +32,12 @@ fn record_by(kept: &[Line; 84], units: u64, monthly: [GrossKwh; 8]) -> Record
 
 // A record from `start` on in a text, of the plant's units with their monthly practical powers: the record and the place after it, or
 // why the text is refused.
-pub fn read_record(text: &[u8], start: u64, units: u64, monthly: [GrossKwh; 8]) -> Result<RecordRead, TextRefusal>
+pub fn read_record(
+    text: &[u8],
+    start: u64,
+    units: u64,
+    monthly: [GrossKwh; 8],
+) -> Result<RecordRead, TextRefusal>
     ensures { told result ≡ read_record text.now start units monthly }
 {
     let at = lines::start_in(text, start)?;

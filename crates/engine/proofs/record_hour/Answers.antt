@@ -10,16 +10,18 @@ use Rattle.lines.specs.declared.TextRefusal.{TextRefusal}
 use Rattle.record.specs.declared.Record.{Record}
 use Rattle.record_text.specs.declared.RecordRead.{RecordRead}
 use Rattle.record_text.specs.Hour.{told}
+use Rattle.settlement.specs.Ranges.{HourDue}
 use Rattle.decisions.specs.Changes.{hour_index}
 use Rattle.engine.proofs.record_hour.Goals as goal
 
 -- a record that was read, told by its place
-due_read : {P : Record → Type 0} {x : Result RecordRead TextRefusal} → ((place : ℕ) → (told x).answer ≡ Ok place → P (told x).read) → (r : RecordRead) → x ≡ Ok r → P r.read
-due_read {P} {x} f r e = subst P (ap (λ (z : Result RecordRead TextRefusal). (told z).read) e) (f r.place (ap (λ (z : Result RecordRead TextRefusal). (told z).answer) e))
+due_read : (P : Record → Type 0) (x : Result RecordRead TextRefusal) → ((place : ℕ) → (told x).answer ≡ Ok place → P (told x).read) → (r : RecordRead) → x ≡ Ok r → P r.read
+due_read P x f r e = subst P (ap (λ (z : Result RecordRead TextRefusal). (told z).read) e) (f r.place (ap (λ (z : Result RecordRead TextRefusal). (told z).answer) e))
 
 pub decide_record-decided-requires : goal.decide_record-decided-requires
 decide_record-decided-requires c =
-    due_read (record_due
+    due_read (λ (x : Record). HourDue c.hour_sheet-day.result x c.held_in-held.result) c.read_record-reading.result
+    (record_due
     (hour_at c.read_record-reading.ensures
     (c.hour_index-h.ensures.value ∙ ap hour_index c.hour_of.ensures)
     c.held_in-held.ensures
