@@ -9,7 +9,7 @@ use mathlib.Core.List.{List, ◌++◌}
 use Prim.Native.Nat.{ℕ, zero, suc, ◌+◌, ◌-◌, ◌≤◌, ◌<◌}
 use native.Mathlib.Omega.{arith}
 use borrow.Author.Tests.{ltb-true}
-use lib.Dec.{ltb, eqb}
+use lib.Dec.{ltb}
 use lib.ListN.{length, drop}
 use Rattle.text.specs.Text.{before, has, value_part, key_is}
 use Rattle.text.specs.Rows.{word}
@@ -34,8 +34,9 @@ use Rattle.ledger.specs.Requests.{call_for, part_of}
 use Rattle.single.specs.Journal.{performed}
 use Rattle.account.specs.declared.Due.{Due}
 use Rattle.account.specs.declared.Day.{Day}
-use Rattle.account.specs.declared.Next.TheVariants.{Ends, Bad, Asks}
-use Rattle.account.specs.Day.{take_row, take_asked, settle_asked, take_of, settle_of, next_at, none_due, due_with, due_at, day_with, answered_by, day_after, Running, performed_in, turned, ran_out, begun, day_from}
+use Rattle.day_calls.specs.declared.Next.TheVariants.{Ends, Bad, Settle}
+use Rattle.day_calls.specs.DayCalls.{take_row, take_asked, settle_asked, take_of, next_at}
+use Rattle.account.specs.Day.{none_due, due_with, due_at, day_with, answered_by, day_after, Running, performed_in, turned, ran_out, begun, day_from}
 use Rattle.account.proofs.Turned.{left_next, ran_next, ran_end}
 
 -- nothing is due, or a call that takes at least one of the bytes that the count has left for it
@@ -44,13 +45,13 @@ data Lasts (text : List ℕ) (x : Due) : Type 0 where
   take_due : (hour unit kwh : ℕ) → x.asked ≡ take_asked hour unit kwh → 0 < x.left → length text < x.after + x.left → Lasts text x
   settle_due : (at : ℕ) → x.asked ≡ settle_asked text at → 0 < x.left → length text ≤ at + x.left → Lasts text x
 
-take_lasts : (text : List ℕ) (left after : ℕ) (r : Result Line TextFault) → 0 < left - 1 → length text < after + (left - 1)
-    → Lasts text (due_with left (take_of r after))
-take_lasts text left after (Ok l) some enough = take_due _ _ _ refl some enough
-take_lasts text left after (Err f) some enough = none refl
+take_lasts : (text : List ℕ) (at left after : ℕ) (r : Result Line TextFault) → 0 < left - 1 → length text < after + (left - 1)
+    → Lasts text (due_with at left (take_of r after))
+take_lasts text at left after (Ok l) some enough = take_due _ _ _ refl some enough
+take_lasts text at left after (Err f) some enough = none refl
 
 settle_lasts : (text : List ℕ) (left at : ℕ) (due : Bool) → 0 < left - 1 → length text ≤ at + (left - 1)
-    → Lasts text (due_with left (cond due (settle_of text at) (Bad 1)))
+    → Lasts text (due_with at left (cond due (Settle (settle_asked text at)) (Bad 1)))
 settle_lasts text left at true some enough = settle_due at refl some enough
 settle_lasts text left at false some enough = none refl
 
@@ -65,13 +66,13 @@ due_lasts text at left enough = by (ltb at (length text)) refl (has 10 (drop at 
     read = value_of take_row (value_part line)
 
     by : (t : Bool) → ltb at (length text) ≡ t → (ended taken : Bool)
-        → Lasts text (due_with left
-        (cond t (cond ended (cond taken (take_of read (place_after text at)) (cond (key_is line (word "hour")) (settle_of text at) (Bad 1))) (Bad 4)) Ends))
+        → Lasts text (due_with at left
+        (cond t (cond ended (cond taken (take_of read (place_after text at)) (cond (key_is line (word "hour")) (Settle (settle_asked text at)) (Bad 1))) (Bad 4)) Ends))
     by false e ended taken = none refl
     by true e false taken = none refl
     by true e true true =
         let inside : at < length text = ltb-true _ _ e in
-        take_lasts text left (place_after text at) read (omega arith) (omega arith)
+        take_lasts text at left (place_after text at) read (omega arith) (omega arith)
     by true e true false =
         let inside : at < length text = ltb-true _ _ e in
         settle_lasts text left at (key_is line (word "hour")) (omega arith) (omega arith)

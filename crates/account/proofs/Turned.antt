@@ -12,19 +12,21 @@ use lib.Dec.{eqb}
 use Rattle.sheet.specs.declared.Sheet.{Sheet}
 use Rattle.ledger.specs.Answers.{Answer}
 use Rattle.ledger.specs.declared.Effect.TheVariants.{Committed, Posted}
-use Rattle.account.specs.declared.Next.{Next}
-use Rattle.account.specs.declared.Next.TheVariants.{Ends, Bad, Asks}
-use Rattle.account.specs.Day.{next_at, due_with, answered_by, day_after, Running, performed_in, turned, ran_to, ran_out}
+use Rattle.day_calls.specs.declared.Next.{Next}
+use Rattle.day_calls.specs.declared.Next.TheVariants.{Ends, Bad, Take, Settle}
+use Rattle.day_calls.specs.DayCalls.{next_at}
+use Rattle.account.specs.Day.{due_with, answered_by, day_after, Running, performed_in, turned, ran_to, ran_out}
 
 -- how many calls are left falls by one, or to 0
-left_with : (left : ℕ) (n : Next) → ((due_with left n).left ≡ 0) ⊎ ((due_with left n).left ≡ left - 1)
-left_with left Ends = inl refl
-left_with left (Bad k) = inl refl
-left_with left (Asks a after) = inr refl
+left_with : (at left : ℕ) (n : Next) → ((due_with at left n).left ≡ 0) ⊎ ((due_with at left n).left ≡ left - 1)
+left_with at left Ends = inl refl
+left_with at left (Bad k) = inl refl
+left_with at left (Take a after) = inr refl
+left_with at left (Settle a) = inr refl
 
 pub left_by : (text : List ℕ) (after left place : ℕ) (a : Answer) → ((answered_by text after left place a).left ≡ 0) ⊎ ((answered_by text after left place a).left ≡ left - 1)
-left_by text after left place (Ok Committed) = left_with left (next_at text after)
-left_by text after left place (Ok (Posted n)) = left_with left (next_at text place)
+left_by text after left place (Ok Committed) = left_with after left (next_at text after)
+left_by text after left place (Ok (Posted n)) = left_with place left (next_at text place)
 left_by text after left place (Err r) = inl refl
 
 pub left_next : (sheet : Sheet) (text : List ℕ) (s : Running) → ((turned sheet text s).day.left ≡ 0) ⊎ ((turned sheet text s).day.left ≡ s.day.left - 1)

@@ -1,13 +1,5 @@
 -- The day's text behind its sheet, each call carried out as it comes (01, Program and marked figures).
-use Rattle.std.specs.Prelude.{ℕ, zero, suc, ◌-◌, false, cond, List, [], ◌∷◌, eqb, ltb, length, drop, get_or, replicate, Result, Ok, Err}
-use Rattle.text.specs.Text.{before, has, value_part, key_is}
-use Rattle.text.specs.Rows.{word, limits}
-use Rattle.values.specs.Values.{value_of}
-use Rattle.text.specs.declared.Row.{Row}
-use Rattle.text.specs.Text.{fault_number}
-use Rattle.text.specs.declared.TextFault.{TextFault}
-use Rattle.text.specs.declared.Line.{Line}
-use Rattle.lines.specs.Lines.{place_after}
+use Rattle.std.specs.Prelude.{ℕ, zero, suc, ◌-◌, cond, List, [], ◌∷◌, eqb, length, replicate, Ok, Err}
 use Rattle.sheet.specs.declared.Sheet.{Sheet}
 use Rattle.state.specs.declared.Book.{Book}
 use Rattle.state.specs.Book.{empty_book}
@@ -22,55 +14,11 @@ use Rattle.ledger.specs.Ledger.{Call}
 use Rattle.ledger.specs.Calls.{State}
 use Rattle.ledger.specs.Requests.{call_for, none_asked}
 use Rattle.single.specs.Journal.{Performed, performed}
-use Rattle.account.specs.declared.Next.{Next}
-use Rattle.account.specs.declared.Next.TheVariants.{Ends, Bad, Asks}
+use Rattle.day_calls.specs.declared.Next.{Next}
+use Rattle.day_calls.specs.declared.Next.TheVariants.{Ends, Bad, Take, Settle}
+use Rattle.day_calls.specs.DayCalls.{next_at}
 use Rattle.account.specs.declared.Due.{Due}
 use Rattle.account.specs.declared.Day.{Day}
-
--- "`take=hour:unit:kWh`"; "A take without three numbers of at most 9 digits is 2"
-abbrev pub most_taken : ℕ
-most_taken = 999999999
-
-unfoldable pub take_row : Row
-take_row =
-    record {
-      key = word "take";
-      word = word "";
-      blank = false;
-      order = false;
-      parts = 3;
-      most = 3;
-      low = limits 0 0 0 0;
-      high = limits most_taken most_taken most_taken 0;
-    }
-
--- a take, and a settle with the record that begins at a place of the whole text, as calls in numbers
-abbrev pub take_asked : (hour unit kwh : ℕ) → Asked
-take_asked hour unit kwh = record { kind = 1; hour = hour; unit = unit; to = 0; kwh = kwh; begin = 0; end = 0; start = 0 }
-
-abbrev pub settle_asked : List ℕ → (at : ℕ) → Asked
-settle_asked text at = record { kind = 4; hour = 0; unit = 0; to = 0; kwh = 0; begin = 0; end = length text; start = at }
-
--- the take of a line, with the place after it
-abbrev pub take_of : Result Line TextFault → (after : ℕ) → Next
-take_of (Ok l) after = Asks (take_asked (get_or l.number 0 0) (get_or l.number 1 0) (get_or l.number 2 0)) after
-take_of (Err f) after = Bad (fault_number f)
-
--- the settle of the record that begins at a place
-abbrev pub settle_of : List ℕ → (at : ℕ) → Next
-settle_of text at = Asks (settle_asked text at) at
-
--- the call of a line by its key; "a line of another key" is 1
-abbrev pub line_call : List ℕ → (at : ℕ) → (line : List ℕ) → Next
-line_call text at line =
-    cond (key_is line (word "take")) (take_of (value_of take_row (value_part line)) (place_after text at))
-    (cond (key_is line (word "hour")) (settle_of text at) (Bad 1))
-
--- "then `take=hour:unit:kWh` lines and hour records in any mixture": what comes at a place of the text. 4 where it "ends inside a line"
-unfoldable pub next_at : List ℕ → (at : ℕ) → Next
-next_at text at =
-    let rest = drop at text in
-    cond (ltb at (length text)) (cond (has 10 rest) (line_call text at (before 10 rest)) (Bad 4)) Ends
 
 -- no call is due: the day has ended, with a refusal's number or 0
 abbrev pub none_due : (refusal : ℕ) → Due
@@ -78,13 +26,18 @@ none_due refusal = record { left = 0; asked = none_asked; after = 0; refusal = r
 
 -- a call is due. Each call takes a byte of the text at least, so no more come than `left`: `none_left` (proofs/DayEnds.antt) says that while none is
 -- left none is due
-abbrev pub due_with : (left : ℕ) → Next → Due
-due_with left Ends = none_due 0
-due_with left (Bad number) = none_due number
-due_with left (Asks a after) = record { left = left - 1; asked = a; after = after; refusal = 0 }
+abbrev pub call_due : Asked → (after left : ℕ) → Due
+call_due a after left = record { left = left - 1; asked = a; after = after; refusal = 0 }
+
+-- by what comes at a place; a record's call keeps the place
+abbrev pub due_with : (at left : ℕ) → Next → Due
+due_with at left Ends = none_due 0
+due_with at left (Bad number) = none_due number
+due_with at left (Take a after) = call_due a after left
+due_with at left (Settle a) = call_due a at left
 
 abbrev pub due_at : List ℕ → (at left : ℕ) → Due
-due_at text at left = due_with left (next_at text at)
+due_at text at left = due_with at left (next_at text at)
 
 abbrev pub day_with : (count : ℕ) → Book → Due → Day
 day_with count b x = record { left = x.left; count = count; book = b; asked = x.asked; after = x.after; refusal = x.refusal }

@@ -4,26 +4,17 @@
 
 ghost use Rattle.std.specs.Prelude.{◌≡◌, true, ◌+◌, ◌-◌, ◌≤◌};
 ghost use Rattle.sheet.specs.Ranges.{sheet_holds};
-ghost use Rattle.ledger.specs.Requests.{none_asked};
 ghost use Rattle.decimal.specs.Output.{output, filled};
 ghost use Rattle.decimal.specs.Writer.{Wrote};
 ghost use Rattle.listing.specs.Listing.{most_bytes};
-ghost use Rattle.account.specs.Day.{take_row, take_of, settle_of, next_at, none_due, due_at, answered_by, day_with, day_from};
+ghost use Rattle.account.specs.Day.{none_due, call_due, due_at, answered_by, day_with, day_from};
 ghost use Rattle.account.specs.Statement.{day_lines, statement_of};
 
+use day_calls::Next;
 use decimal::Writer;
 use ledger::{Asked, Effect, Refusal};
 use sheet::Sheet;
 use state::Book;
-use text::{Line, Row, TextFault};
-
-// What comes at a place of the text: its end, a line that is refused with a number, or a call with the place after its line.
-#[derive(Clone, Copy)]
-pub enum Next {
-    Ends,
-    Bad(u64),
-    Asks(Asked, usize),
-}
 
 // What is due in the day. While calls are left, one is asked for, and `after` is the place after its line; otherwise the day has ended, and
 // the refusal is its number or 0.
@@ -46,132 +37,40 @@ pub struct Day {
     pub refusal: u64,
 }
 
-fn take_row() -> Row
-    ensures { result ≡ take_row }
-{
-    Row {
-        key: *b"take======",
-        word: *b"==========",
-        blank: false,
-        order: false,
-        parts: 3,
-        most: 3,
-        low: [0, 0, 0, 0],
-        high: [999999999, 999999999, 999999999, 0],
-    }
-}
-
-fn no_call() -> Asked
-    ensures { result ≡ none_asked }
-{
-    Asked {
-        kind: 0,
-        hour: 0,
-        unit: 0,
-        to: 0,
-        kwh: 0,
-        begin: 0,
-        end: 0,
-        start: 0,
-    }
-}
-
-// The take of a line's numbers.
-fn take_of(line: Result<Line, TextFault>, after: usize) -> Next
-    ensures { result ≡ take_of line after }
-{
-    match line {
-        Ok(line) => Next::Asks(
-            Asked {
-                kind: 1,
-                hour: line.number[0],
-                unit: line.number[1],
-                to: 0,
-                kwh: line.number[2],
-                begin: 0,
-                end: 0,
-                start: 0,
-            },
-            after,
-        ),
-        Err(fault) => Next::Bad(fault.number()),
-    }
-}
-
-// The settle of the record that begins at a place.
-fn settle_at(text: &[u8], at: usize) -> Next
-    ensures { result ≡ settle_of text.now at }
-{
-    Next::Asks(
-        Asked {
-            kind: 4,
-            hour: 0,
-            unit: 0,
-            to: 0,
-            kwh: 0,
-            begin: 0,
-            end: text.len() as u64,
-            start: at as u64,
-        },
-        at,
-    )
-}
-
-// What comes at a place of the text.
-fn next_at(text: &[u8], at: usize) -> Next
-    ensures { result ≡ next_at text.now at }
-{
-    if text.len() <= at {
-        return Next::Ends;
-    }
-    let e = text::find(text, at, b'\n');
-    if text.len() <= e {
-        return Next::Bad(4);
-    }
-    let line = &text[at..e];
-    if text::key_is(line, *b"take======") {
-        return take_of(values::read_value(text::value_of(line), take_row()), e + 1);
-    }
-    if text::key_is(line, *b"hour======") {
-        return settle_at(text, at);
-    }
-    Next::Bad(1)
-}
-
+// The day has ended, with a refusal's number or 0.
 fn none_due(refusal: u64) -> Due
     ensures { result ≡ none_due refusal }
 {
     Due {
         left: 0,
-        asked: no_call(),
+        asked: Asked::default(),
         after: 0,
         refusal: refusal,
     }
 }
 
-fn one_less(n: usize) -> usize
-    ensures { result ≡ n - 1 }
+// A call is due, and one fewer is left.
+fn call_due(asked: Asked, after: usize, left: usize) -> Due
+    ensures { result ≡ call_due asked after left }
 {
-    if n == 0 {
-        return 0;
+    Due {
+        left: left.saturating_sub(1),
+        asked: asked,
+        after: after,
+        refusal: 0,
     }
-    n - 1
 }
 
 // What is due with what comes at a place.
 fn due_at(text: &[u8], at: usize, left: usize) -> Due
     ensures { result ≡ due_at text.now at left }
 {
-    let next = next_at(text, at);
+    let next = day_calls::next_at(text, at);
     match next {
         Next::Ends => none_due(0),
         Next::Bad(number) => none_due(number),
-        Next::Asks(asked, after) => Due {
-            left: one_less(left),
-            asked: asked,
-            after: after,
-            refusal: 0,
-        },
+        Next::Take(asked, after) => call_due(asked, after, left),
+        Next::Settle(asked) => call_due(asked, at, left),
     }
 }
 

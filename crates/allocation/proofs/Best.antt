@@ -1,7 +1,7 @@
 -- What `best` picks: a unit with room whose next grain is cheaper than that of each lower unit with room, and no dearer than that of
 -- any. There is at most one such unit, so prices that agree on the units with room give the same pick.
 -- Assumes nothing.
-use mathlib.Core.Path.{◌≡◌, refl, sym, ◌∙◌, ap}
+use mathlib.Core.Path.{◌≡◌, refl, sym, subst, ◌∙◌, ap}
 use mathlib.Core.Bool.{Bool, true, false, true≢false, cond}
 use Prim.Native.Nat.{ℕ, zero, suc, ◌≤◌, ◌<◌}
 use native.Mathlib.Nat.{not-suc-le-zero}
@@ -10,8 +10,8 @@ use native.Mathlib.Omega.{arith}
 use borrow.Author.Tests.{ltb-true, ltb-false}
 use lib.Dec.{ltb}
 use Rattle.finite.proofs.Sums.{extend}
-use Rattle.allocation.specs.declared.Pick.{Pick}
-use Rattle.allocation.specs.declared.Pick.TheVariants.{Nothing as none, At as at}
+use Rattle.std.specs.declared.option.Option.{Option}
+use Rattle.std.specs.declared.option.Option.TheVariants.{None as none, Some as at}
 use Rattle.allocation.specs.Fill.{better, best}
 
 pub record Best (next : ℕ → ℕ) (room : ℕ → Bool) (n k : ℕ) : Type 0 where
@@ -20,7 +20,7 @@ pub record Best (next : ℕ → ℕ) (room : ℕ → Bool) (n k : ℕ) : Type 0 
   pub first : (j : ℕ) → j < k → room j ≡ true → next k < next j
   pub least : (j : ℕ) → j < n → room j ≡ true → next k ≤ next j
 
-abbrev pub Picked : (ℕ → ℕ) → (ℕ → Bool) → ℕ → Pick → Type 0
+abbrev pub Picked : (ℕ → ℕ) → (ℕ → Bool) → ℕ → Option ℕ → Type 0
 Picked next room n none = (j : ℕ) → j < n → room j ≡ false
 Picked next room n (at k) = Best next room n k
 
@@ -42,7 +42,7 @@ module _ (next : ℕ → ℕ) (room : ℕ → Bool) (n : ℕ) where
         least = extend (λ j. room j ≡ true → next k ≤ next j) n h.least (λ _. ltb-false _ _ e);
       }
 
-  turn : (q : Pick) → Picked next room n q → (t : Bool) → room n ≡ t → Picked next room (suc n) (cond t (better next q n) q)
+  turn : (q : Option ℕ) → Picked next room n q → (t : Bool) → room n ≡ t → Picked next room (suc n) (cond t (better next q n) q)
   unfolding better
   turn none h true e =
       let none_below : (j : ℕ) → j < n → room j ≡ true → next n < next j = λ j q rj. absurd (true≢false (sym rj ∙ h j q)) in
@@ -68,7 +68,7 @@ module _ (next : ℕ → ℕ) (room : ℕ → Bool) where
   best_is zero = λ j l. absurd (not-suc-le-zero l)
   best_is (suc n) = turn next room n (best next room n) (best_is n) (room n) refl
 
-  one_best : (n : ℕ) (q r : Pick) → Picked next room n q → Picked next room n r → q ≡ r
+  one_best : (n : ℕ) (q r : Option ℕ) → Picked next room n q → Picked next room n r → q ≡ r
   one_best n none none h h' = refl
   one_best n none (at k) h h' = absurd (true≢false (sym h'.free ∙ h k h'.known))
   one_best n (at k) none h h' = absurd (true≢false (sym h.free ∙ h' k h.known))
@@ -79,15 +79,18 @@ module _ (next : ℕ → ℕ) (room : ℕ → Bool) where
       go (no q) (yes q') = absurd (omega (arith, h'.first k q' h.free, h.least j h'.known h'.free))
       go (no q) (no q') = omega arith
 
-  pub best_only : (n : ℕ) (q : Pick) → Picked next room n q → best next room n ≡ q
+  pub best_only : (n : ℕ) (q : Option ℕ) → Picked next room n q → best next room n ≡ q
   best_only n q h = one_best n _ q (best_is n) h
+
+  pub best_below : (n u : ℕ) → best next room n ≡ at u → u < n
+  best_below n u e = let b : Best next room n u = subst (Picked next room n) e (best_is n) in b.known
 
 -- prices that agree on the units with room
 pub best_same : (next next' : ℕ → ℕ) (room : ℕ → Bool) (n : ℕ) → ((u : ℕ) → u < n → room u ≡ true → next u ≡ next' u)
     → best next room n ≡ best next' room n
 best_same next next' room n same = best_only next room n (best next' room n) (by (best next' room n) (best_is next' room n))
   where
-    by : (q : Pick) → Picked next' room n q → Picked next room n q
+    by : (q : Option ℕ) → Picked next' room n q → Picked next room n q
     by none h = h
     by (at k) h =
         let e = same k h.known h.free in

@@ -12,8 +12,8 @@ use Rattle.energy.specs.declared.HubGrains.{HubGrains}
 use Rattle.offer.specs.declared.Offer.{Offer}
 use Rattle.offer.specs.Offer.{past_offer}
 use Rattle.offer.proofs.Quick.{end_of, end_block}
-use Rattle.allocation.specs.declared.Pick.{Pick}
-use Rattle.allocation.specs.declared.Pick.TheVariants.{Nothing as none, At as at}
+use Rattle.std.specs.declared.option.Option.{Option}
+use Rattle.std.specs.declared.option.Option.TheVariants.{None as none, Some as at}
 use Rattle.allocation.specs.declared.Plant.{Plant}
 use Rattle.allocation.specs.Fill.{grains_at, with_more, next_unit, place, fill}
 use Rattle.allocation.specs.Allocation.{plant_energy, ceilings, prices_of, price_of, energies, energies_is}
@@ -31,7 +31,7 @@ module _ (offers : List Offer) (commitments : List HubKwh) (limits : List HubGra
       let i = grains_at s.given u in
       min s.left (end_of (get_or offers u past_offer) (get_or commitments u (record { 0 = 0 })) i (grains_at limits u) - i)
 
-  unfoldable pub round_to : State → Pick → State
+  unfoldable pub round_to : State → Option ℕ → State
   round_to s none = record { given = s.given; left = 0 }
   round_to s (at u) = let m = stretch s u in record { given = with_more s.given u m; left = s.left - m }
 
@@ -46,7 +46,7 @@ module _ (offers : List Offer) (commitments : List HubKwh) (limits : List HubGra
     same : s.given ≡ place (prices_of offers commitments) (grains_at limits) 8 (h - s.left) z
 
   module _ (h : ℕ) (z : List HubGrains) where
-    round_places : (s : State) (q : Pick) → Placed h z s → next_unit (prices_of offers commitments) (grains_at limits) 8 s.given ≡ q → Placed h z (round_to s q)
+    round_places : (s : State) (q : Option ℕ) → Placed h z s → next_unit (prices_of offers commitments) (grains_at limits) 8 s.given ≡ q → Placed h z (round_to s q)
     unfolding round_to
     round_places s none p e =
         record {

@@ -2,7 +2,7 @@
 -- grain's; the block's grains then go to it together, and only its own next block changes.
 -- Assumes nothing.
 use mathlib.Core.Path.{◌≡◌, refl, sym, subst, ◌∙◌, ap}
-use mathlib.Core.Bool.{Bool, true, false, cond}
+use mathlib.Core.Bool.{Bool, true, false}
 use mathlib.Core.List.{List}
 use Prim.Native.Nat.{ℕ, ◌+◌, ◌-◌, ◌<◌, ◌≤◌}
 use native.Mathlib.Numerals.{add-one}
@@ -18,46 +18,30 @@ use Rattle.offer.specs.declared.Offer.{Offer}
 use Rattle.offer.specs.declared.Block.{Block}
 use Rattle.offer.specs.Offer.{past_offer}
 use Rattle.offer.specs.Modified.{IsBlock}
-use Rattle.allocation.specs.declared.Pick.{Pick}
-use Rattle.allocation.specs.declared.Pick.TheVariants.{Nothing as none, At as at}
+use Rattle.std.specs.declared.option.Option.{Option}
+use Rattle.std.specs.declared.option.Option.TheVariants.{None as none, Some as at}
 use Rattle.allocation.specs.Fill.{grains_at, with_more, better, best, next_unit, place}
 use Rattle.allocation.specs.Allocation.{prices_of}
-use Rattle.allocation.specs.Blocks.{block_price, block_end, HasBlock}
+use Rattle.allocation.specs.Blocks.{block_price, block_end, priced, HasBlock}
 use Rattle.allocation.proofs.Best.{best_same}
 use Rattle.allocation.proofs.Runs.{place_add, picked, run}
 
 -- the better of two units, by the code's tests
-module _ (next : ℕ → ℕ) (found : Pick) (v : ℕ) where
-  pub better_first : found ≡ none → at v ≡ better next found v
+module _ (next : ℕ → ℕ) (v : ℕ) where
+  pub better_first : (q : Option ℕ) → priced next q ≡ none → at (v, next v) ≡ priced next (better next q v)
   unfolding better
-  better_first e = rw e
+  better_first none e = refl
+  better_first (at u) e = absurd (let z : ◌≡◌ {A = ℕ} 0 1 = cc in omega arith)
 
-  pub better_new : (u : ℕ) → found ≡ at u → next v < next u → at v ≡ better next found v
+  pub better_new : (q : Option ℕ) (u low : ℕ) → priced next q ≡ at (u, low) → next v < low → at (v, next v) ≡ priced next (better next q v)
   unfolding better
-  better_new u e l = rw e (rw (lt-ltb (next v) (next u) l))
+  better_new none u low e l = absurd (let z : ◌≡◌ {A = ℕ} 0 1 = cc in omega arith)
+  better_new (at w) u low e l = let p : ◌≡◌ {A = ℕ × ℕ} (w, next w) (u, low) = cc in let i : next w ≡ low = ap (λ (x : ℕ × ℕ). x.1) p in rw (lt-ltb (next v) (next w) (omega arith))
 
-  pub better_kept : (u : ℕ) → found ≡ at u → next u ≤ next v → at u ≡ better next found v
+  pub better_kept : (q : Option ℕ) (u low : ℕ) → priced next q ≡ at (u, low) → low ≤ next v → at (u, low) ≡ priced next (better next q v)
   unfolding better
-  better_kept u e l = rw e (rw (le-ltb (next v) (next u) l))
-
--- the price of the better one's next block
-module _ (next : ℕ → ℕ) (v low low' price : ℕ) (mine : next v ≡ price) where
-  weighed : (w u : ℕ) → next w ≡ low → low' ≡ cond (ltb price low) price low → (t : Bool) → ltb price low ≡ t → cond t (at v) (at w) ≡ at u
-      → next u ≡ low'
-  weighed w u h e true q p = let i : v ≡ u = cc in ap next (sym i) ∙ (mine ∙ sym (e ∙ rw q))
-  weighed w u h e false q p = let i : w ≡ u = cc in ap next (sym i) ∙ (h ∙ sym (e ∙ rw q))
-
-  by_found : (found : Pick) → ((u : ℕ) → found ≡ at u → next u ≡ low) → (found ≡ none → low' ≡ price)
-      → ((u : ℕ) → found ≡ at u → low' ≡ cond (ltb price low) price low) → (u : ℕ) → better next found v ≡ at u → next u ≡ low'
-  unfolding better
-  by_found none h n a u e = let i : v ≡ u = cc in ap next (sym i) ∙ (mine ∙ sym (n refl))
-  by_found (at w) h n a u e =
-      weighed w u (h w refl) (a w refl) (ltb price low) refl (rw (mine, h w refl) at e)
-
-  pub low_after : (found : Pick) → ((u : ℕ) → found ≡ at u → next u ≡ low) → (found ≡ none → low' ≡ price)
-      → ((u : ℕ) → found ≡ at u → low' ≡ cond (ltb price low) price low)
-      → (picked : Pick) → picked ≡ better next found v → (u : ℕ) → picked ≡ at u → next u ≡ low'
-  low_after found h n a picked p u e = by_found found h n a u (sym p ∙ e)
+  better_kept none u low e l = absurd (let z : ◌≡◌ {A = ℕ} 0 1 = cc in omega arith)
+  better_kept (at w) u low e l = let p : ◌≡◌ {A = ℕ × ℕ} (w, next w) (u, low) = cc in let i : next w ≡ low = ap (λ (x : ℕ × ℕ). x.1) p in rw (le-ltb (next v) (next w) (omega arith)) (sym e)
 
 -- one unit more
 module _ (next : ℕ → ℕ) (room : ℕ → Bool) (n : ℕ) where

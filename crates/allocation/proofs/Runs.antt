@@ -12,13 +12,13 @@ use lib.Dec.{ltb}
 use lib.ListN.{length, set, replicate, get_or-replicate}
 use lib.Seq.{set-set, set-get_or, set_out}
 use Rattle.energy.specs.declared.HubGrains.{HubGrains}
-use Rattle.allocation.specs.declared.Pick.{Pick}
-use Rattle.allocation.specs.declared.Pick.TheVariants.{Nothing as none, At as at}
+use Rattle.std.specs.declared.option.Option.{Option}
+use Rattle.std.specs.declared.option.Option.TheVariants.{None as none, Some as at}
 use Rattle.allocation.specs.Fill.{grains_at, with_more, next_unit, give, place}
 use Rattle.allocation.proofs.Best.{Best, Picked, best_is, best_only}
 use Rattle.allocation.proofs.Threshold.{more_same, more_other}
 
-give_most : (a : List HubGrains) (q : Pick) (u : ℕ) → grains_at (give a q) u ≤ grains_at a u + 1
+give_most : (a : List HubGrains) (q : Option ℕ) (u : ℕ) → grains_at (give a q) u ≤ grains_at a u + 1
 unfolding give
 give_most a none u = omega arith
 give_most a (at k) u = go (ℕ_discrete u k) (dec_lt k (length a))
@@ -57,7 +57,7 @@ module _ (price : ℕ → ℕ → ℕ) (ceiling : ℕ → ℕ) (n : ℕ) where
 
   pub picked : (a : List HubGrains) (k : ℕ) → next_unit price ceiling n a ≡ at k → Best (λ u. price u (grains_at a u)) (λ u. ltb (grains_at a u) (ceiling u)) n k
   picked a k e =
-      subst (λ (q : Pick). Picked (λ u. price u (grains_at a u)) (λ u. ltb (grains_at a u) (ceiling u)) n q) e
+      subst (λ (q : Option ℕ). Picked (λ u. price u (grains_at a u)) (λ u. ltb (grains_at a u) (ceiling u)) n q) e
       (best_is (λ u. price u (grains_at a u)) (λ u. ltb (grains_at a u) (ceiling u)) n)
 
   -- with m grains more at one price

@@ -15,8 +15,8 @@ use lib.Seq.{get_or-set_same, get_or-set_other}
 use Rattle.finite.specs.Finite.{sum}
 use Rattle.finite.proofs.Sums.{climb, sum_le, sum_raise, sum_zero}
 use Rattle.energy.specs.declared.HubGrains.{HubGrains}
-use Rattle.allocation.specs.declared.Pick.{Pick}
-use Rattle.allocation.specs.declared.Pick.TheVariants.{Nothing as none, At as at}
+use Rattle.std.specs.declared.option.Option.{Option}
+use Rattle.std.specs.declared.option.Option.TheVariants.{None as none, Some as at}
 use Rattle.allocation.specs.Fill.{grains_at, with_more, next_unit, give, place, fill, cost_of, Cheapest}
 use Rattle.allocation.proofs.Best.{Best, Picked, best_is}
 
@@ -111,7 +111,7 @@ module _ (price : ℕ → ℕ → ℕ) (ceiling : ℕ → ℕ) (n : ℕ) where
             high = λ u l. high u l (ℕ_discrete u k);
           }
 
-    onward : (h : ℕ) → suc h ≤ sum n ceiling → (a : List HubGrains) → Filled price ceiling n h a → (q : Pick)
+    onward : (h : ℕ) → suc h ≤ sum n ceiling → (a : List HubGrains) → Filled price ceiling n h a → (q : Option ℕ)
         → Picked (λ u. price u (grains_at a u)) (λ u. ltb (grains_at a u) (ceiling u)) n q → Filled price ceiling n (suc h) (give a q)
     unfolding give
     onward h l a f none b =
@@ -161,7 +161,7 @@ module _ (price : ℕ → ℕ → ℕ) (ceiling : ℕ → ℕ) (n : ℕ) where
               omega (arith, weighed f.threshold x y f.level s.within n (omega arith), ap (λ (t : ℕ). f.threshold * t) e);
         }
 
-  given : (a : List HubGrains) → length a ≡ n → (q : Pick) → length (give a q) ≡ n
+  given : (a : List HubGrains) → length a ≡ n → (q : Option ℕ) → length (give a q) ≡ n
   unfolding give
   given a e none = e
   given a e (at k) = length-set a k (record { 0 = grains_at a k + 1 }) ∙ e

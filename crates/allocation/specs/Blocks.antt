@@ -1,5 +1,7 @@
 -- For the code of the fill: each unit's next block, of grains that follow one another at one price.
 use Rattle.std.specs.Prelude.{◌≡◌, true, List, ℕ, ◌<◌, ◌≤◌, get_or}
+use Rattle.std.specs.declared.option.Option.{Option}
+use Rattle.std.specs.declared.option.Option.TheVariants.{None as none, Some as at}
 use Rattle.energy.specs.declared.HubKwh.{HubKwh}
 use Rattle.energy.specs.declared.HubGrains.{HubGrains}
 use Rattle.offer.specs.declared.Offer.{Offer}
@@ -14,6 +16,11 @@ block_price blocks u = (get_or blocks u (record { price = 0; end = record { 0 = 
 
 abbrev pub block_end : List Block → ℕ → ℕ
 block_end blocks u = (get_or blocks u (record { price = 0; end = record { 0 = 0 } })).end.0
+
+-- a unit that was picked, with the price of its next grain
+abbrev pub priced : (ℕ → ℕ) → Option ℕ → Option (ℕ × ℕ)
+priced next none = none
+priced next (at u) = at (u, next u)
 
 -- the offer and the commitment of a unit with a ceiling over 0 keep their ranges
 abbrev pub Offered : List Offer → List HubKwh → List HubGrains → Type 0

@@ -3,8 +3,8 @@
 use Rattle.std.specs.Prelude.{◌≡◌, Bool, cond, List, ℕ, zero, suc, ◌+◌, ◌≤◌, ◌<◌, ltb, get_or, set, replicate}
 use Rattle.finite.specs.Finite.{sum}
 use Rattle.energy.specs.declared.HubGrains.{HubGrains}
-use Rattle.allocation.specs.declared.Pick.{Pick}
-use Rattle.allocation.specs.declared.Pick.TheVariants.{Nothing as none, At as at}
+use Rattle.std.specs.declared.option.Option.{Option}
+use Rattle.std.specs.declared.option.Option.TheVariants.{None as none, Some as at}
 
 -- unit u's grains in a list of energies
 abbrev pub grains_at : List HubGrains → ℕ → ℕ
@@ -15,21 +15,21 @@ abbrev pub with_more : List HubGrains → ℕ → ℕ → List HubGrains
 with_more a u m = set a u (record { 0 = grains_at a u + m })
 
 -- the unit picked so far, or unit v, which has room, where its next grain is cheaper; `next u` is the price of unit u's next grain
-unfoldable pub better : (ℕ → ℕ) → Pick → ℕ → Pick
+unfoldable pub better : (ℕ → ℕ) → Option ℕ → ℕ → Option ℕ
 better next none v = at v
 better next (at u) v = cond (ltb (next v) (next u)) (at v) (at u)
 
 -- of the first n units, among those that have room, the one whose next grain has the lowest price; at equal price the lower unit
-unfoldable pub best : (ℕ → ℕ) → (ℕ → Bool) → ℕ → Pick
+unfoldable pub best : (ℕ → ℕ) → (ℕ → Bool) → ℕ → Option ℕ
 best next room zero = none
 best next room (suc n) = let u = best next room n in cond (room n) (better next u n) u
 
 -- the unit that gets the next grain: a unit has room below its ceiling
-abbrev pub next_unit : (ℕ → ℕ → ℕ) → (ℕ → ℕ) → ℕ → List HubGrains → Pick
+abbrev pub next_unit : (ℕ → ℕ → ℕ) → (ℕ → ℕ) → ℕ → List HubGrains → Option ℕ
 next_unit price ceiling n a = best (λ u. price u (grains_at a u)) (λ u. ltb (grains_at a u) (ceiling u)) n
 
 -- one grain more for the unit picked
-unfoldable pub give : List HubGrains → Pick → List HubGrains
+unfoldable pub give : List HubGrains → Option ℕ → List HubGrains
 give a none = a
 give a (at u) = with_more a u 1
 

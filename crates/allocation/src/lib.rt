@@ -1,29 +1,22 @@
 // The plant's net hub energy allocated to its units: ceilings, and the fill by rising price.
 #![tactic(auto)]
 
-ghost use Rattle.std.specs.Prelude.{◌≡◌, true, cond, ℕ, ◌+◌, ◌≤◌, ◌<◌, eqb, ltb, length, get_or};
+ghost use Rattle.std.specs.Prelude.{◌≡◌, true, cond, Option, Some, ℕ, ◌+◌, ◌≤◌, ◌<◌, eqb, ltb, length, get_or};
 ghost use Rattle.finite.specs.Finite.{sum, tabulate};
 ghost use Rattle.energy.specs.Energy.{hub_of};
 ghost use Rattle.units.specs.Units.{member_at};
 ghost use Rattle.offer.specs.Offer.{offer_holds};
 ghost use Rattle.offer.specs.Modified.{IsBlock};
-ghost use Rattle.allocation.specs.declared.Pick.TheVariants.{Nothing, At};
 ghost use Rattle.allocation.specs.Fill.{grains_at, better, best, fill as the_fill};
 ghost use Rattle.allocation.specs.Allocation.{net_at, gross_at, plant_energy, ceilings as the_ceilings, prices_of, energies, PlantHolds};
-ghost use Rattle.allocation.specs.Blocks.{block_price, Offered, HasBlock};
+ghost use Rattle.allocation.specs.Blocks.{block_price, priced, Offered, HasBlock};
 
 use energy::{Energy, GrossKwh, HubGrains, HubKwh, NetKwh};
 use offer::{Block, Offer};
+use std::array;
 
-// A unit's place, or none.
-#[derive(Clone, Copy)]
-pub enum Pick {
-    Nothing,
-    At(usize),
-}
-
-// What an hour's allocation rests on: places 0 to 7 stand for units 1 to 8, and bit k of `units` says whether the plant has the
-// unit at place k. Values at the other places are not looked at.
+// What an hour's allocation rests on: places 0 to 7 stand for units 1 to 8, and bit k of `units` says whether the
+// plant has the unit at place k. Values at the other places are not looked at.
 #[derive(Clone, Copy)]
 pub struct Plant {
     pub loss: u64,
@@ -58,11 +51,8 @@ fn real_sum(units: u64, real: [NetKwh; 8]) -> NetKwh
     ensures { result ≡ record { 0 = sum 8 (λ (k : ℕ). (net_at units real k).0) } }
 {
     let mut sum = NetKwh(0);
-    let mut k: usize = 0;
-    while k < 8 {
-        let value = real[k];
-        sum = sum.plus(net_at(units, value, k));
-        k += 1;
+    for k in 0..8 {
+        sum = sum.plus(net_at(units, real[k], k));
     }
     sum
 }
@@ -72,7 +62,7 @@ fn weight_at(units: u64, real: NetKwh, nominal: GrossKwh, reals: NetKwh, k: usiz
     ensures { result ≡ cond (eqb reals.0 0) (cond (member_at units k) nominal (record { 0 = 0 })).0 (cond (member_at units k) real (record { 0 = 0 })).0 }
 {
     if units::member_at(units, k) {
-        if reals.equals(NetKwh(0)) {
+        if reals == NetKwh(0) {
             return nominal.0;
         }
         return real.0;
@@ -84,15 +74,7 @@ fn weight_at(units: u64, real: NetKwh, nominal: GrossKwh, reals: NetKwh, k: usiz
 fn weights_of(units: u64, real: [NetKwh; 8], nominal: [GrossKwh; 8], reals: NetKwh) -> [u64; 8]
     ensures { result ≡ tabulate 8 (λ (k : ℕ). cond (eqb reals.0 0) (gross_at units nominal k).0 (net_at units real k).0) }
 {
-    let mut weights = [0u64; 8];
-    let mut k: usize = 0;
-    while k < 8 {
-        let a = real[k];
-        let b = nominal[k];
-        weights[k] = weight_at(units, a, b, reals, k);
-        k += 1;
-    }
-    weights
+    array::from_fn(|k| weight_at(units, real[k], nominal[k], reals, k))
 }
 
 // Each unit's `real` at the hub, and its share of the excess.
@@ -101,13 +83,9 @@ fn with_shares(units: u64, real: [NetKwh; 8], loss: u64, shares: [u64; 8]) -> [H
     ensures { result ≡ tabulate 8 (λ (k : ℕ). record { 0 = (hub_of (net_at units real k) loss).0 + get_or shares k 0 }) }
 {
     let mut ceilings = [HubGrains(0); 8];
-    let mut k: usize = 0;
-    while k < 8 {
-        let value = real[k];
-        let able = energy::hub_of(net_at(units, value, k), loss);
-        let share = shares[k];
-        ceilings[k] = able.plus(HubGrains(share));
-        k += 1;
+    for k in 0..8 {
+        let able = energy::hub_of(net_at(units, real[k], k), loss);
+        ceilings[k] = able.plus(HubGrains(shares[k]));
     }
     ceilings
 }
@@ -134,7 +112,7 @@ fn next_block(offer: Offer, commitment: HubKwh, i: HubGrains, limit: HubGrains) 
     requires { i.0 < limit.0 → (offer_holds offer ≡ true) × (commitment.0 ≤ 1000000000) }
     ensures { i.0 < limit.0 → IsBlock offer commitment i.0 limit.0 result.price result.end.0 }
 {
-    if limit.exceeds(i) {
+    if i < limit {
         return offer::block_at(offer, commitment, i, limit);
     }
     Block {
@@ -156,62 +134,37 @@ fn first_blocks(
         price: 0,
         end: HubGrains(0),
     }; 8];
-    let mut u: usize = 0;
-    while u < 8 {
-        let offer = offers[u];
-        let commitment = commitments[u];
-        let limit = ceilings[u];
-        blocks[u] = next_block(offer, commitment, HubGrains(0), limit);
-        u += 1;
+    for u in 0..8 {
+        blocks[u] = next_block(offers[u], commitments[u], HubGrains(0), ceilings[u]);
     }
     blocks
 }
 
-// The unit found so far, whose next block has the price `low`, or unit v where its own next block's price is less.
-fn better_of(found: Pick, low: u64, price: u64, v: usize) -> Pick
-    ensures { (next : ℕ → ℕ) → next v ≡ price → ((u : ℕ) → found ≡ At u → next u ≡ low) → result ≡ better next found v }
+// The unit found so far with the price of its next block, or unit v with its own next block's where that is less.
+fn better_of(found: Option<(usize, u64)>, v: usize, price: u64) -> Option<(usize, u64)>
+    ensures { (next : ℕ → ℕ) (q : Option ℕ) → next v ≡ price → found ≡ priced next q → result ≡ priced next (better next q v) }
 {
-    let Pick::At(_) = found else {
-        return Pick::At(v);
+    let Some((_, low)) = found else {
+        return Some((v, price));
     };
     if price < low {
-        return Pick::At(v);
+        return Some((v, price));
     }
     found
-}
-
-// The price of the next block of the better of the two.
-fn lower_of(found: Pick, low: u64, price: u64) -> u64
-    ensures { (found ≡ Nothing → result ≡ price) × ((u : ℕ) → found ≡ At u → result ≡ cond (ltb price low) price low) }
-{
-    let Pick::At(_) = found else {
-        return price;
-    };
-    if low <= price {
-        return low;
-    }
-    price
 }
 
 // The unit with room whose next block is cheapest, the lowest at equal price.
-fn cheapest(energies: [HubGrains; 8], ceilings: [HubGrains; 8], blocks: [Block; 8]) -> Pick
-    ensures { result ≡ best (block_price blocks) (λ (u : ℕ). ltb (grains_at energies u) (grains_at ceilings u)) 8 }
+fn cheapest(energies: [HubGrains; 8], ceilings: [HubGrains; 8], blocks: [Block; 8]) -> Option<usize>
+    ensures picked { result ≡ best (block_price blocks) (λ (u : ℕ). ltb (grains_at energies u) (grains_at ceilings u)) 8 }
+    ensures below { (u : ℕ) → result ≡ Some u → u < 8 }
 {
-    let mut found = Pick::Nothing;
-    let mut low: u64 = 0;
-    let mut v: usize = 0;
-    while v < 8 {
-        let has = energies[v];
-        let limit = ceilings[v];
-        let block = blocks[v];
-        if limit.exceeds(has) {
-            let better = better_of(found, low, block.price, v);
-            low = lower_of(found, low, block.price);
-            found = better;
+    let mut found = None;
+    for v in 0..8 {
+        if energies[v] < ceilings[v] {
+            found = better_of(found, v, blocks[v].price);
         }
-        v += 1;
     }
-    found
+    found.map(|(u, _)| u)
 }
 
 // The fill, a block or what is left of the total at a time; then only the unit that was filled gets its next block.
@@ -227,20 +180,14 @@ fn fill(
     let mut energies = [HubGrains(0); 8];
     let mut blocks = first_blocks(offers, commitments, ceilings);
     let mut left = total;
-    while left.exceeds(HubGrains(0)) {
-        let found = cheapest(energies, ceilings, blocks);
-        let Pick::At(u) = found else {
+    while left > HubGrains(0) {
+        let Some(u) = cheapest(energies, ceilings, blocks) else {
             return energies;
         };
-        let has = energies[u];
-        let block = blocks[u];
-        let more = block.end.above(has).lesser(left);
-        let grains = has.plus(more);
-        let offer = offers[u];
-        let commitment = commitments[u];
-        let limit = ceilings[u];
+        let more = blocks[u].end.above(energies[u]).min(left);
+        let grains = energies[u].plus(more);
         energies[u] = grains;
-        blocks[u] = next_block(offer, commitment, grains, limit);
+        blocks[u] = next_block(offers[u], commitments[u], grains, ceilings[u]);
         left = left.above(more);
     }
     energies

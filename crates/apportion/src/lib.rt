@@ -22,53 +22,55 @@ fn sum_of(s: &[u64]) -> u64
     s.iter().sum()
 }
 
-// A part's remainder, or 0 once the part has more than its quotient.
-fn remainder_left(d: &Division, shares: &[u64], i: usize) -> u64
-    requires { (i < length d.now.weights.now) × (i < length shares.now) }
-    ensures { result ≡ remainder_left (quotient d.now.all d.now.total d.now.weights.now) (remainder d.now.all d.now.total d.now.weights.now) shares.now i }
-{
-    let x = d.total * d.weights[i];
-    if shares[i] == x / d.all {
-        return x % d.all;
+impl Division<'_> {
+    // A part's remainder, or 0 once the part has more than its quotient.
+    fn remainder_left(&self, shares: &[u64], i: usize) -> u64
+        requires { (i < length self.now.weights.now) × (i < length shares.now) }
+        ensures { result ≡ remainder_left (quotient self.now.all self.now.total self.now.weights.now) (remainder self.now.all self.now.total self.now.weights.now) shares.now i }
+    {
+        let x = self.total * self.weights[i];
+        if shares[i] == x / self.all {
+            return x % self.all;
+        }
+        0
     }
-    0
-}
 
-// The part with the largest remainder, the lowest of equal ones.
-fn largest(d: &Division, shares: &[u64]) -> usize
-    requires { (length shares.now ≡ length d.now.weights.now) × (0 < length d.now.weights.now) }
-    ensures { result ≡ the_largest (quotient d.now.all d.now.total d.now.weights.now) (remainder d.now.all d.now.total d.now.weights.now) shares.now (length d.now.weights.now) }
-{
-    let mut part = 0;
-    let mut most = remainder_left(d, shares, 0);
-    for i in 1..d.weights.len() {
-        let x = remainder_left(d, shares, i);
-        if most < x {
-            part = i;
-            most = x;
+    // The part with the largest remainder, the lowest of equal ones.
+    fn largest(&self, shares: &[u64]) -> usize
+        requires { (length shares.now ≡ length self.now.weights.now) × (0 < length self.now.weights.now) }
+        ensures { result ≡ the_largest (quotient self.now.all self.now.total self.now.weights.now) (remainder self.now.all self.now.total self.now.weights.now) shares.now (length self.now.weights.now) }
+    {
+        let mut part = 0;
+        let mut most = self.remainder_left(shares, 0);
+        for i in 1..self.weights.len() {
+            let x = self.remainder_left(shares, i);
+            if most < x {
+                part = i;
+                most = x;
+            }
+        }
+        part
+    }
+
+    // Each part's quotient, rounded down.
+    fn quotients(&self, shares: &mut [u64])
+        requires { length shares.old ≡ length self.now.weights.now }
+        ensures { shares.new ≡ tabulate (length self.now.weights.now) (quotient self.now.all self.now.total self.now.weights.now) }
+    {
+        for (i, share) in shares.iter_mut().enumerate() {
+            *share = self.total * self.weights[i] / self.all;
         }
     }
-    part
-}
 
-// Each part's quotient, rounded down.
-fn quotients(d: &Division, shares: &mut [u64])
-    requires { length shares.old ≡ length d.now.weights.now }
-    ensures { shares.new ≡ tabulate (length d.now.weights.now) (quotient d.now.all d.now.total d.now.weights.now) }
-{
-    for (i, share) in shares.iter_mut().enumerate() {
-        *share = d.total * d.weights[i] / d.all;
-    }
-}
-
-// One each to the largest remainders, `rest` in all.
-fn add_ones(d: &Division, rest: u64, shares: &mut [u64])
-    requires { Due d.now.weights.now d.now.total d.now.all rest shares.old }
-    ensures { shares.new ≡ add_ones (quotient d.now.all d.now.total d.now.weights.now) (remainder d.now.all d.now.total d.now.weights.now) (length d.now.weights.now) rest shares.old }
-{
-    for _added in 0..rest {
-        let part = largest(d, shares);
-        shares[part] += 1;
+    // One each to the largest remainders, `rest` in all.
+    fn add_ones(&self, rest: u64, shares: &mut [u64])
+        requires { Due self.now.weights.now self.now.total self.now.all rest shares.old }
+        ensures { shares.new ≡ add_ones (quotient self.now.all self.now.total self.now.weights.now) (remainder self.now.all self.now.total self.now.weights.now) (length self.now.weights.now) rest shares.old }
+    {
+        for _added in 0..rest {
+            let part = self.largest(shares);
+            shares[part] += 1;
+        }
     }
 }
 
@@ -87,7 +89,7 @@ pub fn apportion(weights: &[u64], total: u64, shares: &mut [u64])
         total,
         all,
     };
-    quotients(&d, shares);
+    d.quotients(shares);
     let rest = total - sum_of(shares);
-    add_ones(&d, rest, shares);
+    d.add_ones(rest, shares);
 }

@@ -1,11 +1,11 @@
 -- The loop over the calls of a batch: what holds before each call, and that it holds after it.
 -- Assumes nothing.
 use mathlib.Core.Path.{◌≡◌, refl, ◌∙◌}
-use mathlib.Core.Bool.{Bool, true, false, ◌&&◌}
+use mathlib.Core.Bool.{true, ◌&&◌}
 use mathlib.Core.List.{List}
-use Prim.Native.Nat.{ℕ, zero, suc, ◌+◌, ◌*◌, ◌^◌, ◌≤◌, ◌<◌}
+use Prim.Native.Nat.{ℕ, ◌+◌, ◌*◌, ◌^◌, ◌≤◌, ◌<◌}
 use native.Mathlib.Omega.{arith}
-use borrow.Author.Tests.{ltb-true, ltb-false}
+use borrow.Author.Tests.{ltb-true}
 use lib.Dec.{ltb}
 use lib.IntN.{ℤ}
 use lib.ListN.{length, set, length-set}
@@ -21,22 +21,13 @@ use Rattle.engine.specs.declared.Done.{Done}
 use Rattle.engine.specs.Table.{Table, Long, Ready, Carried}
 use Rattle.single.specs.Single.{entries_of}
 use Rattle.batch.specs.Run.{replied}
-use Rattle.batch.specs.Batches.{BatchReady, Ahead, Batched}
+use Rattle.batch.specs.Batches.{BatchReady, Ahead}
 use Rattle.batch.proofs.Replies.{length_replied}
 use Rattle.batch.proofs.Ahead.{ahead_none, ready_here, sum_fits, ahead_next}
 
 -- a call is left, and there is room for an entry
 pub going : (i n filled : ℕ) → (ltb i n && ltb filled 16) ≡ true → (i < n) × (filled < 16)
 going i n filled e = (ltb-true i n (and_left (ltb i n) _ e), ltb-true filled 16 (and_right (ltb i n) _ e))
-
--- the first call finds room
-pub not_going : (i n filled : ℕ) → i < n → (ltb i n && ltb filled 16) ≡ false → 16 ≤ filled
-not_going i n filled l e = by (ltb i n) (ltb filled 16) refl refl e
-  where
-    by : (t u : Bool) → ltb i n ≡ t → ltb filled 16 ≡ u → (t && u) ≡ false → 16 ≤ filled
-    by true true p q f = absurd (let z : ◌≡◌ {A = ℕ} 0 1 = cc in omega arith)
-    by true false p q f = ltb-false filled 16 q
-    by false u p q f = absurd (omega (arith, ltb-false i n p))
 
 module _ (terms : DayTerms) (offers calls text answers : List ℕ) (t : Table) (first n count places : ℕ) where
   pub record Underway (turns : ℕ) (answers' : List ℕ) (t' : Table) (total : ℕ) (hours : List ℕ) (rows : List ℤ) (filled : ℕ) : Type 0 where
@@ -99,19 +90,3 @@ module _ (terms : DayTerms) (offers calls text answers : List ℕ) (t : Table) (
             → entries ≡ entries_of done.answer → answers'' ≡ replied answers' (first + turns) number line posted done.place → Long t'' → length rows'' ≡ length rows' → first + turns < n
             → Underway (turns + 1) answers'' t'' (total + posted) (set hours' filled done.hour) rows'' (filled + entries)
         onward answers'' number line posted entries en el ep ee ea long same more = rw (ea, en, el, ep, ee) (next long same more)
-
-      pub ended : (ltb (first + turns) n && ltb filled 16) ≡ false
-          → Batched terms offers calls text answers t first n count places answers' t' hours' rows' (record { turns = turns; count = total; filled = filled })
-      ended stop =
-          record {
-            ahead = u.ahead;
-            some = some turns refl;
-            most = u.within;
-          }
-        where
-          some : (k : ℕ) → turns ≡ k → 0 < turns
-          some zero e =
-              let z : filled ≡ 0 = u.begins e in
-              let l : first + turns < n = omega (arith, ready.more) in
-              absurd (omega (arith, not_going (first + turns) n filled l stop))
-          some (suc k) e = omega arith

@@ -2,7 +2,7 @@
 #![tactic(auto)]
 
 ghost use Rattle.std.specs.Prelude.{◌≡◌, true, ◌&&◌, ltb, ◌/◌, ◌≤◌, ◌<◌, length};
-ghost use Rattle.ledger.specs.Requests.{call_numbers, none_asked};
+ghost use Rattle.ledger.specs.Requests.{call_numbers};
 ghost use Rattle.day_calls.specs.DayCalls.{take_row, take_of, settle_asked, next_at, end_step, call_step, step_at, line_bytes, stored_at, Lists};
 
 use ledger::Asked;
@@ -49,21 +49,6 @@ fn take_row() -> Row
     }
 }
 
-fn no_call() -> Asked
-    ensures { result ≡ none_asked }
-{
-    Asked {
-        kind: 0,
-        hour: 0,
-        unit: 0,
-        to: 0,
-        kwh: 0,
-        begin: 0,
-        end: 0,
-        start: 0,
-    }
-}
-
 // The take of a line's numbers.
 fn take_of(line: Result<Line, TextFault>, after: usize) -> Next
     ensures { result ≡ take_of line after }
@@ -103,7 +88,7 @@ fn settle_at(text: &[u8], at: usize) -> Asked
 }
 
 // What comes at a place of the text.
-fn next_at(text: &[u8], at: usize) -> Next
+pub fn next_at(text: &[u8], at: usize) -> Next
     ensures { result ≡ next_at text.now at }
 {
     if text.len() <= at {
@@ -128,7 +113,7 @@ fn end_step(ending: u64) -> Step
 {
     Step {
         more: false,
-        asked: no_call(),
+        asked: Asked::default(),
         after: 0,
         ending: ending,
     }
@@ -165,20 +150,15 @@ fn store_call(calls: &mut [u64], i: usize, a: Asked)
 {
     let number = [a.kind, a.hour, a.unit, a.to, a.kwh, a.begin, a.end, a.start];
     let at = 8 * i;
-    let mut k: usize = 0;
-    while k < 8 {
+    for k in 0..8 {
         calls[at + k] = number[k];
-        k += 1;
     }
 }
 
 fn stores_on(more: bool, n: usize, room: usize) -> bool
     ensures { result ≡ (more && ltb n room) }
 {
-    if more {
-        return n < room;
-    }
-    false
+    more && n < room
 }
 
 // The calls of a text from a place on, in numbers, and the ending. A list with a place for every six bytes of the text has places for all of them.

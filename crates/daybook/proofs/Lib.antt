@@ -1,2 +1,2 @@
-pub mod Shown
-pub mod Turned
+pub mod Within
+pub mod Steps

@@ -1,71 +1,93 @@
--- The bytes that `replay` prints for a text.
+-- The bytes that `replay` prints for a text: a list of calls carried out and printed one by one, and behind the last the tables. "Each is carried
+-- out as it comes, over a list of 2,000 places."
 use Rattle.std.specs.Prelude.{Result, Ok, Err}
 use Rattle.lines.specs.declared.TextRefusal.{TextRefusal}
-use Rattle.std.specs.Prelude.{ℕ, zero, suc, ◌+◌, cond, List, [], ◌++◌, eqb, length}
+use Rattle.std.specs.Prelude.{ℕ, zero, suc, ◌+◌, ◌/◌, ◌%◌, cond, List, ◌++◌, eqb, replicate}
 use Rattle.sheet.specs.declared.Sheet.{Sheet}
 use Rattle.sheet_text.specs.Day.{read_sheet}
 use Rattle.state.specs.declared.Book.{Book}
 use Rattle.state.specs.Book.{empty_book}
 use Rattle.postings.specs.declared.Posting.{Posting}
+use Rattle.postings.specs.Journal.{no_posting}
+use Rattle.ledger.specs.Answers.{TotalAnswer}
 use Rattle.ledger.specs.Requests.{call_for}
+use Rattle.ledger.specs.Total.{total_on}
 use Rattle.single.specs.Journal.{Performed, performed}
 use Rattle.asks.specs.declared.Asking.{Asking}
 use Rattle.asks.specs.declared.Extent.{Extent}
+use Rattle.asks.specs.Asks.{asking_at}
 use Rattle.asks.specs.Extent.{extent_of}
-use Rattle.entries.specs.Entries.{sheet_refused, stop_line}
-use Rattle.daybook.specs.Turns.{asked_next, listed_after, turn_text, total_after, own_list}
+use Rattle.listing.specs.Listing.{joined}
+use Rattle.entries.specs.Entries.{answer_text, total_text, entry_line, sheet_refused, stop_line}
+use Rattle.entries.specs.Tables.{tables, total_line}
+use Rattle.daybook.specs.declared.Stand.{Stand}
 
--- the journal's list, the count and the book, the place in the text, the totals listed, and the bytes printed
+-- the journal's list, the count and the book, and the place of the next line in the text
 pub record Course : Type 0 where
   pub list : List Posting
   pub count : ℕ
   pub book : Book
   pub at : ℕ
-  pub listed : ℕ
-  pub bytes : List ℕ
 
-abbrev pub asked : List ℕ → Course → Asking
-asked text c = asked_next text c.at c.listed
+abbrev pub course : List Posting → Stand → Course
+course list s = record { list = list; count = s.count; book = s.book; at = s.at }
 
-abbrev pub called : Sheet → List ℕ → Course → Performed
-called sheet text c = performed c.list c.count sheet c.book (call_for text (asked text c).call)
+-- the call of a line, and the total of a line
+abbrev pub called : Sheet → List ℕ → Course → Asking → Performed
+called sheet text c a = performed c.list c.count sheet c.book (call_for text a.call)
 
-abbrev pub printed : Sheet → List ℕ → Course → Performed → List ℕ
-printed sheet text c p = turn_text text sheet.units c.at c.listed (asked text c) p.outcome (total_after sheet (asked text c) p)
+abbrev pub totalled : Sheet → Course → (unit item : ℕ) → TotalAnswer
+totalled sheet c unit item = total_on sheet (record { book = c.book; count = c.count; journal = c.list }) unit item
 
--- one call or total more
+-- what a line leaves; a total changes nothing
+abbrev pub left_by : Course → Asking → Performed → Course
+left_by c a p = cond (eqb a.kind 7) (record c { at = a.next }) (record { list = p.list; count = p.outcome.count; book = p.outcome.book; at = a.next })
+
 unfoldable pub stepped : Sheet → List ℕ → Course → Course
-stepped sheet text c =
-    let p = called sheet text c in
-    record {
-      list = p.list;
-      count = p.outcome.count;
-      book = p.outcome.book;
-      at = (asked text c).next;
-      listed = listed_after (length text) c.at c.listed;
-      bytes = c.bytes ++ printed sheet text c p;
-    }
+stepped sheet text c = left_by c (asking_at text c.at) (called sheet text c (asking_at text c.at))
+
+-- what is printed of it
+abbrev pub result_text : Asking → Performed → TotalAnswer → List ℕ
+result_text a p t = cond (eqb a.kind 7) (total_text t) (answer_text p.outcome.answer)
+
+unfoldable pub step_line : Sheet → List ℕ → Course → List ℕ
+step_line sheet text c =
+    let a = asking_at text c.at in
+    entry_line text c.at (result_text a (called sheet text c a) (totalled sheet c a.unit a.item))
 
 unfoldable pub steps : Sheet → List ℕ → Course → ℕ → Course
 steps sheet text c zero = c
 steps sheet text c (suc k) = stepped sheet text (steps sheet text c k)
 
+abbrev pub nth_line : Sheet → List ℕ → Course → ℕ → List ℕ
+nth_line sheet text c k = step_line sheet text (steps sheet text c k)
+
+-- "over a list of 2,000 places"
+unfoldable pub own_list : List Posting
+own_list = replicate 2000 no_posting
+
 -- "a day sheet; then lines": the calls from the place behind the sheet on
 abbrev pub begun : (from : ℕ) → Course
-begun from = record { list = own_list; count = 0; book = empty_book; at = from; listed = 0; bytes = [] }
+begun from = record { list = own_list; count = 0; book = empty_book; at = from }
 
--- the calls, and at the end of the text the 40 totals; "A line that is no call ends the run (..) and no tables."
-unfoldable pub turns_of : Extent → ℕ
-turns_of e = cond (eqb e.refusal 0) (e.calls + 40) e.calls
+-- "`total UNIT ITEM RIAL` for each unit of the plant and item": total n, from 0, of those of eight units and five items
+unfoldable pub listed_total : Sheet → Course → ℕ → List ℕ
+listed_total sheet c n =
+    let t = totalled sheet c (n / 5 + 1) (n % 5 + 1) in
+    total_line (n / 5 + 1) (n % 5 + 1) t
 
-abbrev pub stop_of : Extent → List ℕ
-stop_of e = cond (eqb e.refusal 0) [] (stop_line e.line e.refusal)
+unfoldable pub last_tables : Sheet → Course → List ℕ
+last_tables sheet c = tables sheet.units c.book ++ joined 40 (listed_total sheet c)
 
-unfoldable pub call_lines : Sheet → List ℕ → (from : ℕ) → List ℕ
-call_lines sheet text from = (steps sheet text (begun from) (turns_of (extent_of text from))).bytes ++ stop_of (extent_of text from)
+-- at the end of the text the tables; "A line that is no call ends the run (..) and no tables."
+unfoldable pub ending : Sheet → Course → Extent → List ℕ
+ending sheet c e = cond (eqb e.refusal 0) (last_tables sheet c) (stop_line e.line e.refusal)
+
+unfoldable pub call_lines : Sheet → List ℕ → Course → Extent → List ℕ
+call_lines sheet text c e = joined e.calls (nth_line sheet text c) ++ ending sheet (steps sheet text c e.calls) e
 
 abbrev pub replayed_by : List ℕ → Result ℕ TextRefusal → Sheet → List ℕ
-replayed_by text (Ok place) sheet = call_lines sheet text place
+replayed_by text (Ok place) sheet = call_lines sheet text (begun place) (extent_of text place)
 replayed_by text (Err r) sheet = sheet_refused r
 
 unfoldable pub replayed : List ℕ → List ℕ

@@ -2,156 +2,125 @@
 // over a list of 2,000 places, and printed with its result; behind the last stand the commitments, the settled hours and the totals.
 #![tactic(auto)]
 
-ghost use Rattle.std.specs.Prelude.{◌≡◌, ◌≤◌, length};
+ghost use Rattle.std.specs.Prelude.{◌≡◌, ◌<◌, ◌≤◌, length};
+ghost use Rattle.listing.specs.Listing.{joined};
 ghost use Rattle.decimal.specs.Output.{output, written};
-ghost use Rattle.daybook.specs.Turns.{total_asked, asked_next, listed_after, first_tables, turn_text, own_list};
-ghost use Rattle.daybook.specs.Running.{told_to, turned, ran_all, started as started_at};
-ghost use Rattle.daybook.specs.Replay.{turns_of, call_lines, replayed};
+ghost use Rattle.decimal.specs.Writer.{Wrote};
+ghost use Rattle.asks.specs.Extent.{extent_of};
+ghost use Rattle.daybook.specs.Replay.{course, stepped, step_line, steps, nth_line, begun, own_list, listed_total, last_tables, ending, call_lines, replayed};
 
-use asks::{Asking, Extent};
-use ledger::{Outcome, Refusal};
+use asks::Extent;
+use decimal::Writer;
 use postings::Posting;
 use sheet::Sheet;
 use state::Book;
 
-// How the run stands: the count and the book; the place of the next line in the text; how many totals are listed behind the last line, up to
-// 40; and how many bytes are printed.
+// How the run stands: the count and the book, and the place of the next line in the text.
 #[derive(Clone, Copy)]
 pub struct Stand {
     pub count: u64,
     pub book: Book,
     pub at: usize,
-    pub listed: usize,
-    pub printed: usize,
 }
 
-// Total n of the list by unit and item, from 0.
-fn total_asked(at: usize, n: usize) -> Asking
-    ensures { result ≡ total_asked at n }
+// The call or the total of the next line is carried out and printed; a total changes nothing.
+fn turn(out: &mut Writer, list: &mut [Posting], sheet: Sheet, text: &[u8], stand: Stand) -> Stand
+    ensures left { course list.new result ≡ stepped sheet text.now (course list.old stand) }
+    ensures printed { Wrote out.old out.new (step_line sheet text.now (course list.old stand)) }
 {
-    Asking {
-        call: asks::no_asked(),
-        unit: n as u64 / 5 + 1,
-        item: n as u64 % 5 + 1,
-        kind: 0,
-        refusal: 0,
-        next: at,
+    let asking = asks::ask(text, stand.at);
+    if asking.kind == 7 {
+        let t = journal::total(
+            list,
+            stand.count,
+            sheet,
+            stand.book,
+            asking.unit,
+            asking.item,
+        );
+        entries::put_total(out, text, stand.at, t);
+        return Stand {
+            count: stand.count,
+            book: stand.book,
+            at: asking.next,
+        };
     }
-}
-
-// What is carried out next: the call of the line at the place; behind the last line a total.
-fn asked_next(text: &[u8], stand: Stand) -> Asking
-    ensures { result ≡ asked_next text.now stand.at stand.listed }
-{
-    let at = stand.at;
-    let listed = stand.listed;
-    if at < text.len() {
-        return asks::ask(text, at);
-    }
-    total_asked(at, listed)
-}
-
-fn listed_after(size: usize, at: usize, listed: usize) -> usize
-    ensures { result ≡ listed_after size at listed }
-{
-    if at < size {
-        return listed;
-    }
-    if listed < 40 {
-        return listed + 1;
-    }
-    listed
-}
-
-// The commitments and the settled hours stand before the first of the totals.
-fn put_first_tables(out: &mut [u8], at: usize, listed: usize, units: u64, book: Book) -> usize
-    ensures { output out.new result ≡ written (output out.old at) (first_tables listed units book) }
-{
-    if listed == 0 {
-        return entries::put_tables(out, at, units, book);
-    }
-    at
-}
-
-// What was carried out is printed.
-fn put_turn(
-    out: &mut [u8],
-    at: usize,
-    text: &[u8],
-    units: u64,
-    stand: Stand,
-    asking: Asking,
-    o: Outcome,
-    t: Result<i64, Refusal>,
-) -> usize
-    ensures { output out.new result ≡ written (output out.old at) (turn_text text.now units stand.at stand.listed asking o t) }
-{
-    let from = stand.at;
-    if from < text.len() {
-        let answer = o.answer;
-        return entries::put_entry(out, at, text, from, asking.kind, answer, t);
-    }
-    let book = o.book;
-    let a = put_first_tables(out, at, stand.listed, units, book);
-    entries::put_listed(out, a, asking.unit, asking.item, t)
-}
-
-// It is printed, and the run stands behind it.
-fn told(
-    out: &mut [u8],
-    text: &[u8],
-    sheet: Sheet,
-    stand: Stand,
-    asking: Asking,
-    o: Outcome,
-    t: Result<i64, Refusal>,
-) -> Stand
-    ensures { record { out = out.exit.now; stand = result } ≡ told_to out.entry.now text.now sheet stand asking o t }
-{
-    let book = o.book;
-    let printed = put_turn(out, stand.printed, text, sheet.units, stand, asking, o, t);
+    let o = journal::call(list, stand.count, sheet, stand.book, text, asking.call);
+    entries::put_call(out, text, stand.at, o.answer);
     Stand {
         count: o.count,
-        book: book,
+        book: o.book,
         at: asking.next,
-        listed: listed_after(text.len(), stand.at, stand.listed),
-        printed: printed,
     }
 }
 
-// A call, or a total behind the last one. The call of a total changes nothing, and the total of a call is not printed.
-fn turn(list: &mut [Posting], sheet: Sheet, text: &[u8], out: &mut [u8], stand: Stand) -> Stand
-    ensures { record { list = list.exit.now; out = out.new; stand = result } ≡ turned sheet text.now (record { list = list.entry.now; out = out.old; stand = stand }) }
-{
-    let asking = asked_next(text, stand);
-    let o = journal::call(list, stand.count, sheet, stand.book, text, asking.call);
-    let t = journal::total(list, o.count, sheet, o.book, asking.unit, asking.item);
-    told(out, text, sheet, stand, asking, o, t)
-}
-
-// So many calls and totals.
+// So many lines.
 fn run(
+    out: &mut Writer,
     list: &mut [Posting],
     sheet: Sheet,
     text: &[u8],
-    out: &mut [u8],
-    turns: usize,
+    calls: usize,
     start: Stand,
 ) -> Stand
-    ensures { record { list = list.exit.now; out = out.new; stand = result } ≡ ran_all sheet text.now (record { list = list.entry.now; out = out.old; stand = start }) turns }
+    ensures left { course list.new result ≡ steps sheet text.now (course list.old start) calls }
+    ensures printed { Wrote out.old out.new (joined calls (nth_line sheet text.now (course list.old start))) }
 {
     let mut stand = start;
-    let mut i: usize = 0;
-    while i < turns {
-        stand = turn(list, sheet, text, out, stand);
-        i += 1;
+    for i in 0..calls {
+        stand = turn(out, list, sheet, text, stand);
     }
     stand
 }
 
-// The run over a list of 2,000 places of its own.
-fn day(sheet: Sheet, text: &[u8], out: &mut [u8], turns: usize, start: Stand) -> Stand
-    ensures { (result ≡ (ran_all sheet text.now (record { list = own_list; out = out.old; stand = start }) turns).stand) × (out.new ≡ (ran_all sheet text.now (record { list = own_list; out = out.old; stand = start }) turns).out) }
+// Total n by unit and item, from 0.
+#[tactic(auto, unfolding(crate::specs::Replay::listed_total))]
+fn put_total(out: &mut Writer, list: &mut [Posting], sheet: Sheet, stand: Stand, n: usize)
+    requires { n < 40 }
+    ensures list_same { list.new ≡ list.old }
+    ensures printed { Wrote out.old out.new (listed_total sheet (course list.old stand) n) }
+{
+    let unit = n as u64 / 5 + 1;
+    let item = n as u64 % 5 + 1;
+    let t = journal::total(list, stand.count, sheet, stand.book, unit, item);
+    entries::put_listed(out, unit, item, t);
+}
+
+// The commitments, the settled hours and the totals.
+fn put_last_tables(out: &mut Writer, list: &mut [Posting], sheet: Sheet, stand: Stand)
+    ensures { Wrote out.old out.new (last_tables sheet (course list.old stand)) }
+{
+    entries::put_tables(out, sheet.units, &stand.book);
+    for n in 0..40 {
+        put_total(out, list, sheet, stand, n);
+    }
+}
+
+// What stands behind the calls: the tables, or the line that is no call.
+#[tactic(auto, unfolding(crate::specs::Replay::ending))]
+fn put_ending(out: &mut Writer, list: &mut [Posting], sheet: Sheet, stand: Stand, extent: Extent)
+    ensures { Wrote out.old out.new (ending sheet (course list.old stand) extent) }
+{
+    if extent.refusal == 0 {
+        put_last_tables(out, list, sheet, stand);
+    } else {
+        entries::put_stop(out, extent.line, extent.refusal);
+    }
+}
+
+// The calls from a place of the text on, up to its end or the first line that is no call.
+#[tactic(auto, using(decimal::proofs::Laws::written_append), unfolding(crate::specs::Replay::call_lines))]
+fn put_calls(out: &mut Writer, list: &mut [Posting], sheet: Sheet, text: &[u8], start: Stand)
+    ensures { Wrote out.old out.new (call_lines sheet text.now (course list.old start) (extent_of text.now start.at)) }
+{
+    let extent = asks::calls_from(text, start.at);
+    let stand = run(out, list, sheet, text, extent.calls, start);
+    put_ending(out, list, sheet, stand, extent);
+}
+
+// The calls behind the sheet, on the empty book, over a list of 2,000 places of its own.
+fn put_day(out: &mut Writer, sheet: Sheet, text: &[u8], from: usize)
+    ensures { Wrote out.old out.new (call_lines sheet text.now (begun from) (extent_of text.now from)) }
 {
     let mut list = [Posting {
         hour: 0,
@@ -159,45 +128,23 @@ fn day(sheet: Sheet, text: &[u8], out: &mut [u8], turns: usize, start: Stand) ->
         item: 0,
         amount: 0,
     }; 2000];
-    run(&mut list, sheet, text, out, turns, start)
-}
-
-// The run on the empty book, from a place of the text.
-fn started(at: usize) -> Stand
-    ensures { result ≡ started_at at }
-{
     let book = state::empty_book();
-    Stand {
+    let start = Stand {
         count: 0,
         book: book,
-        at: at,
-        listed: 0,
-        printed: 0,
-    }
+        at: from,
+    };
+    put_calls(out, &mut list, sheet, text, start);
 }
 
-// The calls, and the 40 totals where every line is a call.
-fn turns_of(extent: Extent) -> usize
-    requires { extent.calls ≤ 65536 }
-    ensures { result ≡ turns_of extent }
+// What `replay` prints for a text.
+fn put_replay(out: &mut Writer, text: &[u8])
+    ensures { Wrote out.old out.new (replayed text.now) }
 {
-    if extent.refusal == 0 {
-        return extent.calls + 40;
+    match sheet_text::read_sheet(text, 0) {
+        Ok(read) => put_day(out, read.sheet, text, read.place as usize),
+        Err(refusal) => entries::put_sheet_refused(out, refusal),
     }
-    extent.calls
-}
-
-// The calls behind the sheet, up to the end of the text or the first line that is no call.
-fn put_calls(out: &mut [u8], sheet: Sheet, text: &[u8], from: usize) -> usize
-    requires { length text.now ≤ 65536 }
-    ensures { output out.new result ≡ written (output out.old 0) (call_lines sheet text.now from) }
-{
-    let extent = asks::calls_from(text, from);
-    let stand = day(sheet, text, out, turns_of(extent), started(from));
-    if extent.refusal == 0 {
-        return stand.printed;
-    }
-    entries::put_stop(out, stand.printed, extent.line, extent.refusal)
 }
 
 // What `replay` prints for a text, as far as `out` has places; the place behind it.
@@ -205,8 +152,10 @@ pub fn replay_of(text: &[u8], out: &mut [u8]) -> usize
     ensures result_after { output out.new result ≡ written (output out.old 0) (replayed text.now) }
     ensures upper_bound { result ≤ length out.new }
 {
-    match sheet_text::read_sheet(text, 0) {
-        Ok(read) => put_calls(out, read.sheet, text, read.place as usize),
-        Err(refusal) => entries::put_sheet_refused(out, 0, refusal),
-    }
+    let mut writer = Writer {
+        buffer: out,
+        place: 0,
+    };
+    put_replay(&mut writer, text);
+    writer.place
 }

@@ -1,21 +1,21 @@
--- A settle, restate or void by what the sheet and the book have of its hour: why it is refused, or its hour and text place, and the hour's mark,
--- energies and amounts after it.
-use Rattle.std.specs.Prelude.{ℕ, Bool, cond, not, List, ◌++◌, Result, Ok, Err}
+-- A settle, restate or void by what the sheet and the book have of its hour: why it is refused, or its hour and text place, and whether the
+-- hour is settled, its energies and amounts after it.
+use Rattle.std.specs.Prelude.{ℕ, Bool, true, false, cond, not, List, ◌++◌, Result, Ok, Err}
 use Rattle.energy.specs.declared.HubKwh.{HubKwh}
 use Rattle.record_text.specs.Hour.{RecordTold}
 use Rattle.settlement.specs.declared.HourResult.{HourResult}
 use Rattle.terms.specs.declared.HourSheet.{HourSheet}
 use Rattle.settlement.specs.Ranges.{hour_by, proportions_by}
-use Rattle.state.specs.Book.{no_result, open_mark, settled_mark}
+use Rattle.state.specs.Book.{no_result}
 use Rattle.ledger.specs.declared.Refusal.{Refusal}
 use Rattle.ledger.specs.declared.Refusal.TheVariants.{HourStands, HourOpen}
 use Rattle.ledger.specs.Answers.{Verdict}
 use Rattle.ledger.specs.Calls.{Row, row, verdict, text_rows, record_tests, void_tests, place_after}
 use Rattle.decisions.specs.declared.HourChange.{HourChange}
 
--- "settle, restate and void" of an hour: the text place, and the hour's mark, energies and amounts after it
-abbrev pub hour_changed : (hour mark : ℕ) → HourResult → (place : ℕ) → HourChange
-hour_changed hour mark result place = record { hour = hour; place = place; mark = mark; result = result }
+-- "settle, restate and void" of an hour: the text place, and whether the hour is settled, its energies and amounts after it
+abbrev pub hour_changed : (hour : ℕ) → (settled : Bool) → HourResult → (place : ℕ) → HourChange
+hour_changed hour settled result place = record { hour = hour; place = place; settled = settled; result = result }
 
 -- a refusal changes nothing
 abbrev pub change_by : Verdict → HourChange → Result HourChange Refusal
@@ -25,7 +25,7 @@ change_by (Err r) d = Err r
 -- void: 10 41 42
 unfoldable pub void_decided : (units hour : ℕ) → (settled : Bool) → (count places : ℕ) → Result HourChange Refusal
 void_decided units hour settled count places =
-    change_by (verdict (void_tests units hour settled count places)) (hour_changed hour open_mark no_result 0)
+    change_by (verdict (void_tests units hour settled count places)) (hour_changed hour false no_result 0)
 
 -- 40 of a settle, 41 of a restate
 abbrev pub standing_row : (again settled : Bool) → Row
@@ -36,4 +36,4 @@ unfoldable pub record_decided : HourSheet → List HubKwh → (again settled : B
 record_decided day held again settled read count places =
     let r = read.read in
     change_by (verdict (text_rows read.answer ++ record_tests day.units (proportions_by day.units day.own r) r (standing_row again settled) count places))
-    (hour_changed r.hour settled_mark (hour_by day r held) (place_after 0 read.answer))
+    (hour_changed r.hour true (hour_by day r held) (place_after 0 read.answer))

@@ -10,7 +10,7 @@ ghost use Rattle.ledger.specs.Calls.{verdict, bad_hour, unknown_units, short_of,
 ghost use Rattle.ledger.specs.Numbers.{number_of, line_of, posted_of};
 ghost use Rattle.ledger.specs.Requests.{part_of, asked_at};
 ghost use Rattle.decisions.specs.Calls.{commitment_call, record_call, decoded, call_start};
-ghost use Rattle.decisions.specs.Changes.{hour_index, entry_index, take_change, release_change, move_change, change_of, change_tests};
+ghost use Rattle.decisions.specs.Changes.{hour_index, entry_index, change_of, change_tests};
 ghost use Rattle.decisions.specs.Hours.{void_decided, standing_row, record_decided};
 
 use energy::{Energy, HubKwh};
@@ -70,12 +70,12 @@ pub struct CommitmentChange {
     pub moves: bool,
 }
 
-// What an accepted settle, restate or void comes to: its hour and the text place, and the hour's mark, energies and amounts after it.
+// What an accepted settle, restate or void comes to: its hour and the text place, and whether the hour is settled, its energies and amounts after it.
 #[derive(Clone, Copy)]
 pub struct HourChange {
     pub hour: u64,
     pub place: u64,
-    pub mark: u64,
+    pub settled: bool,
     pub result: HourResult,
 }
 
@@ -140,7 +140,7 @@ pub fn decode(asked: Asked) -> Call
     }
 }
 
-// Where a call's record starts in its part of the text, 0 without one.
+// The text place of a call that is refused: where its record starts in its part of the text, 0 without one.
 pub fn start_of(call: Call) -> u64
     ensures { result ≡ call_start call }
 {
@@ -150,54 +150,42 @@ pub fn start_of(call: Call) -> u64
     }
 }
 
-fn take_change(hour: u64, unit: u64, kwh: u64) -> CommitmentChange
-    ensures { result ≡ take_change hour unit kwh }
-{
-    CommitmentChange {
-        hour,
-        from: unit,
-        to: unit,
-        out: HubKwh(0),
-        into: HubKwh(kwh),
-        moves: false,
-    }
-}
-
-fn release_change(hour: u64, unit: u64, kwh: u64) -> CommitmentChange
-    ensures { result ≡ release_change hour unit kwh }
-{
-    CommitmentChange {
-        hour,
-        from: unit,
-        to: unit,
-        out: HubKwh(kwh),
-        into: HubKwh(0),
-        moves: false,
-    }
-}
-
-fn move_change(hour: u64, from: u64, to: u64, kwh: u64) -> CommitmentChange
-    ensures { result ≡ move_change hour from to kwh }
-{
-    CommitmentChange {
-        hour,
-        from,
-        to,
-        out: HubKwh(kwh),
-        into: HubKwh(kwh),
-        moves: true,
-    }
-}
-
 // What a take, release or move gives and gets.
-#[tactic(auto, unfolding(crate::specs::Changes::change_of))]
-pub fn change_of(call: CommitmentCall) -> CommitmentChange
-    ensures { result ≡ change_of call }
-{
-    match call.kind {
-        CommitmentKind::Take => take_change(call.hour, call.unit, call.kwh),
-        CommitmentKind::Release => release_change(call.hour, call.unit, call.kwh),
-        CommitmentKind::Move => move_change(call.hour, call.unit, call.to, call.kwh),
+impl From<CommitmentCall> for CommitmentChange {
+    #[tactic(auto, unfolding(crate::specs::Changes::change_of))]
+    fn from(call: CommitmentCall) -> CommitmentChange
+        ensures { result ≡ change_of call }
+    {
+        let kwh = HubKwh(call.kwh);
+        let (from, to, out, into, moves) = match call.kind {
+            CommitmentKind::Take => (call.unit, call.unit, HubKwh(0), kwh, false),
+            CommitmentKind::Release => (call.unit, call.unit, kwh, HubKwh(0), false),
+            CommitmentKind::Move => (call.unit, call.to, kwh, kwh, true),
+        };
+        CommitmentChange {
+            hour: call.hour,
+            from,
+            to,
+            out,
+            into,
+            moves,
+        }
+    }
+}
+
+impl CommitmentChange {
+    // 24: whether a move's units are the same.
+    fn same_units(self) -> bool
+        ensures { result ≡ (self.moves && eqb self.from self.to) }
+    {
+        self.moves && self.from == self.to
+    }
+
+    // 21: whether nothing is given and nothing comes.
+    fn no_amount(self) -> bool
+        ensures { result ≡ (eqb self.out.0 0 && eqb self.into.0 0) }
+    {
+        self.out == HubKwh(0) && self.into == HubKwh(0)
     }
 }
 
@@ -225,19 +213,13 @@ pub fn hour_index(hour: u64) -> usize
     (hour - 1) as usize
 }
 
-fn no_unit(unit: u64) -> bool
-    ensures { result ≡ (ltb unit 1 || ltb 8 unit) }
-{
-    unit < 1 || 8 < unit
-}
-
 // Where a unit stands in an hour of the book, 0 for one that is none.
 #[tactic(auto, using(ledger::proofs::Passed::hour_in, ledger::proofs::Passed::unit_in), unfolding(crate::specs::Changes::entry_index))]
 pub fn entry_index(hour: u64, unit: u64) -> usize
     ensures value { result ≡ entry_index hour unit }
     ensures upper_bound { result < 192 }
 {
-    if hour_bad(hour) || no_unit(unit) {
+    if hour_bad(hour) || unit < 1 || 8 < unit {
         return 0;
     }
     (8 * (hour - 1) + (unit - 1)) as usize
@@ -248,20 +230,6 @@ fn over_offer(last: HubKwh, held: HubKwh, kwh: HubKwh) -> bool
     ensures { result ≡ ltb last.0 (held.0 + kwh.0) }
 {
     last < kwh || last.above(kwh) < held
-}
-
-// 24: whether a move's units are the same.
-fn same_units(change: CommitmentChange) -> bool
-    ensures { result ≡ (change.moves && eqb change.from change.to) }
-{
-    change.moves && change.from == change.to
-}
-
-// 21: whether nothing is given and nothing comes.
-fn no_amount(change: CommitmentChange) -> bool
-    ensures { result ≡ (eqb change.out.0 0 && eqb change.into.0 0) }
-{
-    change.out == HubKwh(0) && change.into == HubKwh(0)
 }
 
 // 10 11 24 20 21 23 22: by whether the hour is settled, the commitments of the units that give and get, and the latter's last offer quantity.
@@ -282,13 +250,13 @@ pub fn change_verdict(
     if units_unknown(units, change.from, change.to) {
         return Err(Refusal::UnitUnknown);
     }
-    if same_units(change) {
+    if change.same_units() {
         return Err(Refusal::SameUnit);
     }
     if settled {
         return Err(Refusal::HourSettled);
     }
-    if no_amount(change) {
+    if change.no_amount() {
         return Err(Refusal::NoAmount);
     }
     if source < change.out {
@@ -331,7 +299,7 @@ pub fn decide_void(
     Ok(HourChange {
         hour,
         place: 0,
-        mark: 0,
+        settled: false,
         result: state::no_result(),
     })
 }
@@ -388,7 +356,7 @@ fn decide_read(
     Ok(HourChange {
         hour: read.hour,
         place,
-        mark: 1,
+        settled: true,
         result: settlement::settle_hour(day, read, held),
     })
 }

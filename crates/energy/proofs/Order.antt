@@ -2,9 +2,9 @@
 -- Assumes nothing.
 use Rattle.std.proofs.Common.{rules, arith, ◌≡◌, ◌∙◌, sym, ap, ℕ, ◌≤◌, ◌<◌, true, false}
 use native.Mathlib.Decide.{dec_lt}
-use Rattle.std.specs.Prelude.{ltb, leb, min, max}
-use Rattle.std.specs.Ordering.{nat_cmp, is_lt, is_gt, is_le, is_ge, ord_min, ord_max}
-use Rattle.std.proofs.lemmas.Bool.{ltb-true, ltb-false, leb-true, leb-false, lt-ltb, le-ltb}
+use Rattle.std.specs.Prelude.{ltb, min, max}
+use Rattle.std.specs.Ordering.{nat_cmp, is_lt, is_gt, ord_min, ord_max}
+use Rattle.std.proofs.lemmas.Bool.{ltb-true, ltb-false, lt-ltb, le-ltb}
 
 module _ (a b : ℕ) where
   pub lt_ltb : is_lt (nat_cmp a b) ≡ ltb a b
@@ -12,12 +12,6 @@ module _ (a b : ℕ) where
 
   pub gt_ltb : is_gt (nat_cmp a b) ≡ ltb b a
   gt_ltb = search rules
-
-  pub le_leb : is_le (nat_cmp a b) ≡ leb a b
-  le_leb = search rules
-
-  pub ge_leb : is_ge (nat_cmp a b) ≡ leb b a
-  ge_leb = search rules
 
   -- as rules for `omega` and `grind`
   pub lt_true : is_lt (nat_cmp a b) ≡ true → a < b
@@ -31,18 +25,6 @@ module _ (a b : ℕ) where
 
   pub gt_false : is_gt (nat_cmp a b) ≡ false → a ≤ b
   gt_false t = ltb-false b a (sym gt_ltb ∙ t)
-
-  pub le_true : is_le (nat_cmp a b) ≡ true → a ≤ b
-  le_true t = leb-true a b (sym le_leb ∙ t)
-
-  pub le_false : is_le (nat_cmp a b) ≡ false → b < a
-  le_false t = leb-false a b (sym le_leb ∙ t)
-
-  pub ge_true : is_ge (nat_cmp a b) ≡ true → b ≤ a
-  ge_true t = leb-true b a (sym ge_leb ∙ t)
-
-  pub ge_false : is_ge (nat_cmp a b) ≡ false → a < b
-  ge_false t = leb-false b a (sym ge_leb ∙ t)
 
 -- the lesser and the greater of two energies by `min` and `max`; `amount` is what they are compared by
 module _ {T : Type 0} (amount : T → ℕ) (r a b : T) where

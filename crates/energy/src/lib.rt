@@ -1,8 +1,9 @@
-// The plant's energies and what is paid for them. Gross, net-at-gate and hub energies are types of their own: each is added, subtracted and
-// compared with its own kind only, and the conversions from one kind to another stand here alone.
+// The plant's energies and what is paid for them. Gross, net-at-gate and hub energies are types of their own: each is
+// added, subtracted and compared with its own kind only, and the conversions from one kind to another stand here
+// alone.
 #![tactic(auto)]
 
-ghost use Rattle.std.specs.Prelude.{◌≡◌, ℕ, ◌+◌, ◌*◌, ◌-◌, ◌/◌, ◌^◌, ◌≤◌, ◌<◌, min, max, ltb, eqb};
+ghost use Rattle.std.specs.Prelude.{◌≡◌, ℕ, ◌+◌, ◌*◌, ◌-◌, ◌/◌, ◌^◌, ◌≤◌, ◌<◌};
 ghost use Rattle.energy.specs.Energy.{net_of, hub_of, gate_of, grains_of, pay_of};
 
 // Gross energy in kWh.
@@ -121,15 +122,13 @@ pub fn hub_of(net: NetKwh, loss: u64) -> HubGrains
 }
 
 // Gate energy of a commitment.
-#[tactic(auto, unfolding(crate::specs::Energy::gate_of))]
 pub fn gate_of(commitment: HubKwh, loss: u64) -> NetKwh
     requires { (commitment.0 ≤ 1000000000) × (loss < 10000) }
     ensures { result ≡ gate_of commitment loss }
 {
     let kept = 10000 - loss;
-    let upward = kept - 1;
     let grains = commitment.0 * 10000;
-    NetKwh((grains + upward) / kept)
+    NetKwh(grains.div_ceil(kept))
 }
 
 // A whole hub energy in grains.
@@ -160,18 +159,6 @@ impl GrossKwh {
     {
         GrossKwh(self.0 * share / 100)
     }
-
-    pub fn lesser(self, other: GrossKwh) -> GrossKwh
-        ensures { result.0 ≡ min self.0 other.0 }
-    {
-        self.min(other)
-    }
-
-    pub fn exceeds(self, other: GrossKwh) -> bool
-        ensures { result ≡ ltb other.0 self.0 }
-    {
-        other < self
-    }
 }
 
 impl NetKwh {
@@ -189,38 +176,6 @@ impl NetKwh {
     {
         self.0 * factor
     }
-
-    pub fn greater(self, other: NetKwh) -> NetKwh
-        ensures { result.0 ≡ max self.0 other.0 }
-    {
-        self.max(other)
-    }
-
-    pub fn exceeds(self, other: NetKwh) -> bool
-        ensures { result ≡ ltb other.0 self.0 }
-    {
-        other < self
-    }
-
-    pub fn equals(self, other: NetKwh) -> bool
-        ensures { result ≡ eqb self.0 other.0 }
-    {
-        self == other
-    }
-}
-
-impl HubKwh {
-    pub fn exceeds(self, other: HubKwh) -> bool
-        ensures { result ≡ ltb other.0 self.0 }
-    {
-        other < self
-    }
-
-    pub fn equals(self, other: HubKwh) -> bool
-        ensures { result ≡ eqb self.0 other.0 }
-    {
-        self == other
-    }
 }
 
 impl HubGrains {
@@ -230,23 +185,5 @@ impl HubGrains {
         ensures { result ≡ self.0 * price }
     {
         self.0 * price
-    }
-
-    pub fn lesser(self, other: HubGrains) -> HubGrains
-        ensures { result.0 ≡ min self.0 other.0 }
-    {
-        self.min(other)
-    }
-
-    pub fn greater(self, other: HubGrains) -> HubGrains
-        ensures { result.0 ≡ max self.0 other.0 }
-    {
-        self.max(other)
-    }
-
-    pub fn exceeds(self, other: HubGrains) -> bool
-        ensures { result ≡ ltb other.0 self.0 }
-    {
-        other < self
     }
 }

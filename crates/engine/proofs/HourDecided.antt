@@ -5,7 +5,7 @@
 use Rattle.lines.specs.declared.TextRefusal.{TextRefusal}
 use Rattle.std.specs.Prelude.{Result, Ok, Err}
 use mathlib.Core.Path.{◌≡◌, refl, sym, ◌∙◌, ap, ap₂, subst}
-use mathlib.Core.Bool.{Bool, true, false}
+use mathlib.Core.Bool.{Bool, true, false, cond}
 use mathlib.Core.List.{List, ◌++◌}
 use Prim.Native.Nat.{ℕ, ◌+◌, ◌-◌, ◌*◌, ◌≤◌, ◌<◌}
 use native.Mathlib.Omega.{arith}
@@ -29,7 +29,7 @@ use Rattle.terms.proofs.Taken.{terms_units, hour_units}
 use Rattle.settlement.proofs.Taken.{hour_by_lem, proportions_by_lem}
 use Rattle.state.specs.declared.Book.{Book}
 use Rattle.state.specs.Sizes.{hours, items, entry_of}
-use Rattle.state.specs.Book.{mark_at, past_amounts, item_of, hour_commitments, hour_amounts, settled_mark, with_hour}
+use Rattle.state.specs.Book.{mark_at, past_amounts, item_of, hour_commitments, hour_amounts, settled_mark, with_hour, open_mark}
 use Rattle.state.proofs.Writing.{hour_amount}
 use Rattle.postings.specs.Plan.{plan_of}
 use Rattle.ledger.specs.declared.Refusal.{Refusal}
@@ -61,7 +61,7 @@ accepted_on units b count h d =
       answer = Ok (Posted n);
       place = d.place;
       count = count + n;
-      book = with_hour b h d.mark units d.result;
+      book = with_hour b h (cond d.settled settled_mark open_mark) units d.result;
     }
 
 abbrev decision_of : (units : ℕ) → Book → (count h start : ℕ) → Result HourChange Refusal → Decision
@@ -79,13 +79,13 @@ module _ (s : Sheet) (b : Book) (count room : ℕ) where
       → let day = hour_sheet s r.hour in
       decision_of s.units b count (r.hour - 1) start
       (change_by (verdict (record_tests day.units (proportions_by day.units day.own r) r standing count room))
-      (hour_changed r.hour settled_mark (hour_by day r (hour_commitments b (r.hour - 1))) place))
+      (hour_changed r.hour true (hour_by day r (hour_commitments b (r.hour - 1))) place))
       ≡ by_verdict (verdict (record_rows s r standing count room)) (recorded_at s b r place count) (refused_with b count start)
   read_on r start place standing =
       let day = hour_sheet s r.hour in
       let held = hour_commitments b (r.hour - 1) in
       ap₂ (λ (units : ℕ) (t : Bool). decision_of s.units b count (r.hour - 1) start
-      (change_by (verdict (record_tests units t r standing count room)) (hour_changed r.hour settled_mark (hour_by day r held) place)))
+      (change_by (verdict (record_tests units t r standing count room)) (hour_changed r.hour true (hour_by day r held) place)))
       (hour_units s r.hour) (proportions_by_lem s r)
       ∙ by_on (verdict (record_rows s r standing count room)) (r.hour - 1) start _ _
       (ap (λ (x : HourResult). posted_with s b r.hour settled_mark x place count) (hour_by_lem s r held))

@@ -35,7 +35,7 @@ use Rattle.settlement.proofs.Laws.{amount_most}
 use Rattle.terms.proofs.Taken.{hour_terms_lem, terms_units, terms_monthly}
 use Rattle.settlement.proofs.Taken.{hour_by_lem}
 use Rattle.state.specs.Sizes.{hours, places, items, entries, entry_of}
-use Rattle.state.specs.Book.{past_amounts, item_of, no_result, hour_commitments, settled_mark}
+use Rattle.state.specs.Book.{past_amounts, item_of, no_result, hour_commitments}
 use Rattle.state.specs.Ranges.{most_amount, book_holds}
 use Rattle.state.proofs.InRange.{limit_most, book_in_range}
 use Rattle.state.proofs.Writing.{hour_commitment}
@@ -114,7 +114,7 @@ accepted_bounded (Err r) d b x e = absurd (let z : ◌≡◌ {A = ℕ} 0 1 = cc 
 
 void_bounded : (units hour : ℕ) (settled : Bool) (count room : ℕ) (x : HourChange) → void_decided units hour settled count room ≡ Ok x → Bounded x.result.amounts
 unfolding void_decided
-void_bounded units hour settled count room = accepted_bounded (verdict (void_tests units hour settled count room)) (hour_changed hour 0 no_result 0) none_bounded
+void_bounded units hour settled count room = accepted_bounded (verdict (void_tests units hour settled count room)) (hour_changed hour false no_result 0) none_bounded
 
 record_bounded : (day : HourSheet) (held : List HubKwh) (again settled : Bool) (a : Result ℕ TextRefusal) (r : Record) (count room : ℕ)
     → ((place : ℕ) → a ≡ Ok place → HourDue day r held)
@@ -123,7 +123,7 @@ unfolding record_decided verdict
 record_bounded day held again settled (Ok place) r count room due =
     accepted_bounded
     (verdict (record_tests day.units (proportions_by day.units day.own r) r (standing_row again settled) count room))
-    (hour_changed r.hour settled_mark (hour_by day r held) place) (due_bounded day r held (due place refl))
+    (hour_changed r.hour true (hour_by day r held) place) (due_bounded day r held (due place refl))
 record_bounded day held again settled (Err q) r count room due = λ x e. absurd (let z : ◌≡◌ {A = ℕ} 0 1 = cc in omega arith)
 
 -- what storing a change rests on

@@ -1,10 +1,10 @@
 -- An hour stored in the table.
-use Rattle.std.specs.Prelude.{◌≡◌, List, ℕ, ◌+◌, ◌*◌, ◌≤◌, ◌<◌, ℤ, pos, nat_abs, length, get_or, Result, Ok, Err}
+use Rattle.std.specs.Prelude.{◌≡◌, cond, List, ℕ, ◌+◌, ◌*◌, ◌≤◌, ◌<◌, ℤ, pos, nat_abs, length, get_or, Result, Ok, Err}
 use Rattle.std.proofs.Math.Seq.{paste}
 use Rattle.units.specs.Units.{unit_count}
 use Rattle.state.specs.declared.Book.{Book}
 use Rattle.state.specs.Sizes.{hours, places, items, entries}
-use Rattle.state.specs.Book.{past_amounts, item_of, with_hour}
+use Rattle.state.specs.Book.{past_amounts, item_of, with_hour, open_mark, settled_mark}
 use Rattle.state.specs.Ranges.{most_amount}
 use Rattle.numbers.specs.Numbers.{hour_items, differences}
 use Rattle.ledger.specs.declared.Refusal.{Refusal}
@@ -26,7 +26,7 @@ pub record StoreReady (mark energy : List ℕ) (amounts rows : List ℤ) (entry 
 
 -- an hour stored in the book, and the differences of its amounts in an entry of the rows; where it is refused, all stays
 abbrev pub book_after : (units h : ℕ) → Result HourChange Refusal → Book → Book
-book_after units h (Ok d) b = with_hour b h d.mark units d.result
+book_after units h (Ok d) b = with_hour b h (cond d.settled settled_mark open_mark) units d.result
 book_after units h (Err r) b = b
 
 abbrev pub rows_after : (h entry : ℕ) → Result HourChange Refusal → (amounts rows : List ℤ) → List ℤ

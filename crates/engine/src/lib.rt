@@ -8,7 +8,7 @@ ghost use Rattle.decisions.specs.Calls.{record_of, call_of};
 ghost use Rattle.engine.specs.Table.{table, Ready, Carried};
 ghost use Rattle.engine.specs.Stored.{Stored, StoreReady, hour_answer};
 
-use decisions::{Call, HourChange};
+use decisions::{Call, CommitmentChange, HourChange};
 use ledger::{Effect, Refusal};
 use lines::TextRefusal;
 use record_text::RecordRead;
@@ -22,6 +22,8 @@ pub struct Done {
     pub place: u64,
     pub hour: u64,
 }
+
+// The book's numbers are lent one by one: in a struct, each of its five references would need a clause in each contract that it stays the same one.
 
 // An accepted settle, restate or void stored in its hour, and the differences of the amounts kept in an entry of the rows. A refused one changes
 // nothing, and its text place is `start`.
@@ -57,7 +59,7 @@ fn store_hour(
     numbers::differ(rows, numbers::HOUR_ITEMS * entry, amounts, h, new);
     numbers::store_amounts(amounts, h, units, new);
     numbers::store_energies(energy, h, units, grains);
-    mark[h] = d.mark;
+    mark[h] = d.settled as u64;
     Done {
         answer: Ok(Effect::Posted(5 * units::unit_count(units))),
         place: d.place,
@@ -127,8 +129,12 @@ pub fn carry_out(
     let units = terms.units;
     match call {
         Call::Commitment(c) => {
-            let change = decisions::change_of(c);
-            changed(commitments::change(commitment, mark, offers, units, change))
+            let change = CommitmentChange::from(c);
+            Done {
+                answer: commitments::change(commitment, mark, offers, units, change),
+                place: 0,
+                hour: 0,
+            }
         }
         Call::Record(c) => {
             let part = decisions::part_of(text, c.begin, c.end);
@@ -142,16 +148,5 @@ pub fn carry_out(
             let decided = decisions::decide_void(units, hour, mark[h] == 1, count, places);
             store_hour(mark, energy, amounts, rows, entry, units, h, decided, 0)
         }
-    }
-}
-
-// The answer of a take, release or move: it posts nothing.
-fn changed(answer: Result<Effect, Refusal>) -> Done
-    ensures { result ≡ record { answer = answer; place = 0; hour = 0 } }
-{
-    Done {
-        answer,
-        place: 0,
-        hour: 0,
     }
 }

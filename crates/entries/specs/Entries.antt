@@ -1,5 +1,5 @@
 -- What `replay` prints of a call, as bytes: 10 is LF, 32 a space. "Each line ends in LF; a zero has no sign."
-use Rattle.std.specs.Prelude.{ℕ, cond, List, [], ◌∷◌, ◌++◌, ltb, eqb, ℤ, drop, Ok, Err}
+use Rattle.std.specs.Prelude.{ℕ, cond, List, [], ◌∷◌, ◌++◌, ltb, ℤ, drop, Ok, Err}
 use Rattle.decimal.specs.Decimal.{digits, signed}
 use Rattle.text.specs.Text.{before}
 use Rattle.text.specs.Bytes.{bytes}
@@ -37,17 +37,13 @@ unfoldable pub total_text : TotalAnswer → List ℕ
 total_text (Ok sum) = bytes "sum=" ++ signed sum
 total_text (Err r) = refusal_text r
 
--- the result of a line of a kind; kind 7 is a total
-unfoldable pub result_text : (kind : ℕ) → Answer → TotalAnswer → List ℕ
-result_text kind a t = cond (eqb kind 7) (total_text t) (answer_text a)
-
 -- the line at a place of the text, without its LF
 unfoldable pub line_text : List ℕ → ℕ → List ℕ
 line_text text from = before 10 (drop from text)
 
 -- "Each call prints its line as it stands, a space and its result"
-unfoldable pub entry_line : List ℕ → (from kind : ℕ) → Answer → TotalAnswer → List ℕ
-entry_line text from kind a t = line_text text from ++ ((32 ∷ []) ++ (result_text kind a t ++ (10 ∷ [])))
+unfoldable pub entry_line : List ℕ → (from : ℕ) → (result : List ℕ) → List ℕ
+entry_line text from result = line_text text from ++ ((32 ∷ []) ++ (result ++ (10 ∷ [])))
 
 -- "A line that is no call ends the run: `line=N refused=NUMBER`"
 unfoldable pub stop_line : (line refusal : ℕ) → List ℕ

@@ -4,7 +4,7 @@
 ghost use Rattle.std.specs.Prelude.{◌≡◌, ◌<◌};
 ghost use Rattle.state.specs.Sizes.{hours, places};
 ghost use Rattle.decimal.specs.Writer.{Wrote};
-ghost use Rattle.entries.specs.Entries.{field, amount_field, refusal_text, sheet_refused, answer_text, total_text, result_text, line_text, entry_line, stop_line};
+ghost use Rattle.entries.specs.Entries.{field, amount_field, refusal_text, sheet_refused, answer_text, total_text, line_text, entry_line, stop_line};
 ghost use Rattle.entries.specs.Tables.{commitment_line, commitment_lines, tables, total_line};
 
 use decimal::Writer;
@@ -70,7 +70,7 @@ fn put_answer(out: &mut Writer, answer: Result<Effect, Refusal>)
 }
 
 #[tactic(auto, using(decimal::proofs::Laws::written_append), unfolding(crate::specs::Entries::total_text))]
-fn put_total(out: &mut Writer, t: Result<i64, Refusal>)
+fn put_sum(out: &mut Writer, t: Result<i64, Refusal>)
     ensures { Wrote out.old out.new (total_text t) }
 {
     match t {
@@ -79,18 +79,6 @@ fn put_total(out: &mut Writer, t: Result<i64, Refusal>)
             out.put_signed(sum);
         }
         Err(refusal) => put_refusal(out, refusal),
-    }
-}
-
-// What a line of a kind answers; kind 7 is a total.
-#[tactic(auto, unfolding(crate::specs::Entries::result_text))]
-fn put_result(out: &mut Writer, kind: u64, answer: Result<Effect, Refusal>, t: Result<i64, Refusal>)
-    ensures { Wrote out.old out.new (result_text kind answer t) }
-{
-    if kind == 7 {
-        put_total(out, t);
-    } else {
-        put_answer(out, answer);
     }
 }
 
@@ -104,21 +92,25 @@ fn put_line(out: &mut Writer, text: &[u8], from: usize)
     }
 }
 
-// The line of a call, and its result.
+// The line of a call, and what it answers.
 #[tactic(auto, using(decimal::proofs::Laws::written_append), unfolding(crate::specs::Entries::entry_line))]
-pub fn put_entry(
-    out: &mut Writer,
-    text: &[u8],
-    from: usize,
-    kind: u64,
-    answer: Result<Effect, Refusal>,
-    t: Result<i64, Refusal>,
-)
-    ensures { Wrote out.old out.new (entry_line text.now from kind answer t) }
+pub fn put_call(out: &mut Writer, text: &[u8], from: usize, answer: Result<Effect, Refusal>)
+    ensures { Wrote out.old out.new (entry_line text.now from (answer_text answer)) }
 {
     put_line(out, text, from);
     out.put_byte(b' ');
-    put_result(out, kind, answer, t);
+    put_answer(out, answer);
+    out.put_byte(b'\n');
+}
+
+// The line of a total, and what it answers.
+#[tactic(auto, using(decimal::proofs::Laws::written_append), unfolding(crate::specs::Entries::entry_line))]
+pub fn put_total(out: &mut Writer, text: &[u8], from: usize, t: Result<i64, Refusal>)
+    ensures { Wrote out.old out.new (entry_line text.now from (total_text t)) }
+{
+    put_line(out, text, from);
+    out.put_byte(b' ');
+    put_sum(out, t);
     out.put_byte(b'\n');
 }
 

@@ -63,10 +63,6 @@ listed_to l list (suc k) = posting_stored (listed_to l list k) k (get_or list k 
 abbrev pub most_places : ℕ
 most_places = 100040
 
--- a short journal list, which most calls do with
-abbrev pub few_places : ℕ
-few_places = 2560
-
 -- "Demand 3's calls share one list of places, of any length and contents, with count 0 at first": here of `places` places, all empty
 unfoldable pub own_start : (places : ℕ) → List ℕ → Running
 own_start places answers = record { list = replicate places no_posting; answers = answers; ran = start_ran }

@@ -5,7 +5,7 @@ ghost use Rattle.std.specs.Prelude.{◌≡◌, ◌<◌, ◌≤◌, min, length, 
 ghost use Rattle.decimal.specs.Output.{output, filled};
 ghost use Rattle.listing.specs.Listing.{most_bytes};
 ghost use Rattle.account.specs.Statement.{statement_of};
-ghost use Rattle.exports.specs.Exports.{commitment_numbers, mark_numbers, energy_numbers, held_numbers, item_numbers, amount_numbers, signed_of, posting_stored, listed_to, few_places, most_places, owned_of, called_of};
+ghost use Rattle.exports.specs.Exports.{commitment_numbers, mark_numbers, energy_numbers, held_numbers, item_numbers, amount_numbers, signed_of, posting_stored, listed_to, most_places, owned_of, called_of};
 
 use batch::Ran;
 use postings::Posting;
@@ -13,16 +13,8 @@ use settlement::Amounts;
 use sheet::Sheet;
 use state::Book;
 
-// A number stored at a place, where there is such.
-fn put_number(out: &mut [u64], at: usize, x: u64)
-    ensures { out.new ≡ set out.old at x }
-{
-    if at < out.len() {
-        out[at] = x;
-    }
-}
-
-fn put_amount(out: &mut [i64], at: usize, x: i64)
+// A value stored at a place, where there is such.
+fn store<T: Copy>(out: &mut [T], at: usize, x: T)
     ensures { out.new ≡ set out.old at x }
 {
     if at < out.len() {
@@ -31,37 +23,29 @@ fn put_amount(out: &mut [i64], at: usize, x: i64)
 }
 
 // The 192 commitments, from the first place on.
-fn put_commitments(out: &mut [u64], book: Book)
-    ensures { out.new ≡ commitment_numbers book out.old }
+fn put_commitments(out: &mut [u64], book: &Book)
+    ensures { out.new ≡ commitment_numbers book.now out.old }
 {
-    let mut k: usize = 0;
-    while k < 192 {
-        let kwh = book.commitment[k];
-        put_number(out, k, kwh.0);
-        k += 1;
+    for k in 0..192 {
+        store(out, k, book.commitment[k].0);
     }
 }
 
 // The 24 hour marks, behind the commitments.
-fn put_marks(out: &mut [u64], book: Book)
-    ensures { out.new ≡ mark_numbers book out.old }
+fn put_marks(out: &mut [u64], book: &Book)
+    ensures { out.new ≡ mark_numbers book.now out.old }
 {
-    let mut k: usize = 0;
-    while k < 24 {
-        put_number(out, 192 + k, book.mark[k]);
-        k += 1;
+    for k in 0..24 {
+        store(out, 192 + k, book.mark[k]);
     }
 }
 
 // The 192 energies, behind the marks.
-fn put_energies(out: &mut [u64], book: Book)
-    ensures { out.new ≡ energy_numbers book out.old }
+fn put_energies(out: &mut [u64], book: &Book)
+    ensures { out.new ≡ energy_numbers book.now out.old }
 {
-    let mut k: usize = 0;
-    while k < 192 {
-        let grains = book.energy[k];
-        put_number(out, 216 + k, grains.0);
-        k += 1;
+    for k in 0..192 {
+        store(out, 216 + k, book.energy[k].0);
     }
 }
 
@@ -70,28 +54,23 @@ fn put_items(out: &mut [i64], at: usize, amounts: Amounts)
     requires { at < 192 }
     ensures { out.new ≡ item_numbers out.old at amounts }
 {
-    let mut i: usize = 0;
-    while i < 5 {
-        put_amount(out, 5 * at + i, amounts.item[i]);
-        i += 1;
+    for i in 0..5 {
+        store(out, 5 * at + i, amounts.item[i]);
     }
 }
 
 // The 960 amounts, five to an hour and unit.
-fn put_amounts(out: &mut [i64], book: Book)
-    ensures { out.new ≡ amount_numbers book out.old }
+fn put_amounts(out: &mut [i64], book: &Book)
+    ensures { out.new ≡ amount_numbers book.now out.old }
 {
-    let mut k: usize = 0;
-    while k < 192 {
-        let a = book.amounts[k];
-        put_items(out, k, a);
-        k += 1;
+    for k in 0..192 {
+        put_items(out, k, book.amounts[k]);
     }
 }
 
 // The commitments, marks and energies.
-fn put_held(out: &mut [u64], book: Book)
-    ensures { out.new ≡ held_numbers book out.old }
+fn put_held(out: &mut [u64], book: &Book)
+    ensures { out.new ≡ held_numbers book.now out.old }
 {
     put_commitments(out, book);
     put_marks(out, book);
@@ -102,10 +81,7 @@ fn put_held(out: &mut [u64], book: Book)
 fn signed(x: u64) -> i64
     ensures { result ≡ signed_of x }
 {
-    if x < 9223372036854775808 {
-        return x as i64;
-    }
-    0
+    i64::try_from(x).unwrap_or(0)
 }
 
 // Posting k in four places, where there are such: hour, unit, item, amount.
@@ -123,20 +99,16 @@ fn put_posting(out: &mut [i64], k: usize, x: Posting)
 }
 
 // The journal list, place by place.
-fn listed(list: &mut [Posting], out: &mut [i64])
-    ensures { (out.new ≡ listed_to out.old list.old (length list.old)) × (list.new ≡ list.old) }
+fn listed(list: &[Posting], out: &mut [i64])
+    ensures { out.new ≡ listed_to out.old list.now (length list.now) }
 {
-    let n = list.len();
-    let mut k: usize = 0;
-    while k < n {
-        let x = list[k];
-        put_posting(out, k, x);
-        k += 1;
+    for k in 0..list.len() {
+        put_posting(out, k, list[k]);
     }
 }
 
-// A list of calls over a journal list of so many places of its own, and the list as they leave it.
-fn owned(
+// A list of calls over a journal list of so many places of its own, and the list as they leave it. The list is part of an array of `ROOM`.
+fn owned<const ROOM: usize>(
     sheet: Sheet,
     places: usize,
     calls: &[u64],
@@ -144,7 +116,8 @@ fn owned(
     answers: &mut [u64],
     out: &mut [i64],
 ) -> Ran
-    requires { places ≤ most_places }
+    requires room { ROOM ≤ most_places }
+    requires places_in_room { places ≤ ROOM }
     ensures { record { ran = result; answers = answers.new; postings = out.new } ≡ owned_of sheet places calls.now text.now answers.old out.old }
 {
     let mut list = [Posting {
@@ -152,36 +125,13 @@ fn owned(
         unit: 0,
         item: 0,
         amount: 0,
-    }; 100040];
+    }; ROOM];
     let ran = journal::run(&mut list[..places], sheet, calls, text, answers);
-    listed(&mut list[..places], out);
+    listed(&list[..places], out);
     ran
 }
 
-// The same over a short list, whose array is filled in a fraction of the time.
-fn owned_few(
-    sheet: Sheet,
-    places: usize,
-    calls: &[u64],
-    text: &[u8],
-    answers: &mut [u64],
-    out: &mut [i64],
-) -> Ran
-    requires { places ≤ few_places }
-    ensures { record { ran = result; answers = answers.new; postings = out.new } ≡ owned_of sheet places calls.now text.now answers.old out.old }
-{
-    let mut list = [Posting {
-        hour: 0,
-        unit: 0,
-        item: 0,
-        amount: 0,
-    }; 2560];
-    let ran = journal::run(&mut list[..places], sheet, calls, text, answers);
-    listed(&mut list[..places], out);
-    ran
-}
-
-// The same, with the short list where that holds the places.
+// The same, over a short array where that holds the places: it is filled in a fraction of the time.
 fn carried_out(
     sheet: Sheet,
     places: usize,
@@ -194,19 +144,16 @@ fn carried_out(
     ensures { record { ran = result; answers = answers.new; postings = out.new } ≡ owned_of sheet places calls.now text.now answers.old out.old }
 {
     if places <= 2560 {
-        return owned_few(sheet, places, calls, text, answers, out);
+        return owned::<2560>(sheet, places, calls, text, answers, out);
     }
-    owned(sheet, places, calls, text, answers, out)
+    owned::<100040>(sheet, places, calls, text, answers, out)
 }
 
 // The length of a journal list.
 fn length_of(places: u64) -> usize
     ensures { result ≡ min places most_places }
 {
-    if places < 100040 {
-        return places as usize;
-    }
-    100040
+    places.min(100040) as usize
 }
 
 // A list of calls under the sheet of a text, over a journal list of so many places. Gives the number of the sheet's refusal, or 0.
@@ -234,11 +181,10 @@ pub extern "C" fn gozalvek_calls(
         Ok(read) => {
             let n = length_of(places);
             let ran = carried_out(read.sheet, n, calls, text, answers, postings);
-            let book = ran.book;
             *line = 0;
             *count = ran.count;
-            put_held(held, book);
-            put_amounts(amounts, book);
+            put_held(held, &ran.book);
+            put_amounts(amounts, &ran.book);
             0
         }
     }

@@ -17,7 +17,7 @@ pub struct AvailabilityRate {
     ghost in_range: { (cpf ≤ 10000) × (bar ≤ 1000000) },
 }
 
-// A unit's deviation by kind, from kind 2 on, in net kWh at the gate.
+// A unit's deviation by kind, from kind 2 on, in net kWh at the gate. Kinds are numbers here as in a record's spans.
 #[derive(Clone, Copy)]
 pub struct Deviations {
     pub kwh: [NetKwh; KINDS],

@@ -99,8 +99,9 @@ pub enum Effect {
     Posted(u64),
 }
 
-// A call in numbers, as a list of calls has it: the kind as above, where every other number asks for a void of hour 0, which is refused; and the
-// part of the lent text that the call is given, from `begin` to before `end`; a record starts at `start` in that part.
+// A call in numbers, as the C interface's list of calls has it: kinds 1 to 6 are take, release, move, settle, restate and void, and every other
+// number asks for a void of hour 0, which is refused; and the part of the lent text that the call is given, from `begin` to before `end`; a record
+// starts at `start` in that part.
 #[derive(Clone, Copy, Default)]
 pub struct Asked {
     pub kind: u64,

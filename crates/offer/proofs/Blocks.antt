@@ -34,11 +34,6 @@ module _ (o : Offer) where
   abbrev pub Passed : ℕ → ℕ → Type 0
   Passed i s = (j : ℕ) → i ≤ j → price_from o 0 (o.steps - 1) j ≡ price_from o s (o.steps - 1 - s) j
 
-  pub start : (i : ℕ) → Passed i 0
-  start i j l =
-      let e : o.steps - 1 ≡ o.steps - 1 - 0 = omega arith in
-      ap (λ (n : ℕ). price_from o 0 n j) e
-
   pub onward : (i s : ℕ) → s < o.steps - 1 → (grains_of (quantity_at o s)).0 ≤ i → Passed i s → Passed i (s + 1)
   onward i s l q h j lj =
       let e : o.steps - 1 - s - 1 ≡ o.steps - 1 - (s + 1) = omega arith in

@@ -81,7 +81,8 @@ fn steps_in_order(offer: Offer) -> bool
     })
 }
 
-// Whether the offer keeps its ranges and its order: 1 to 10 steps, each in its ranges, quantities rising, prices never falling.
+// Whether the offer keeps its ranges and its order: 1 to 10 steps, each in its ranges, quantities rising, prices never
+// falling.
 #[tactic(auto, using(crate::proofs::Steps::allowed), unfolding(crate::specs::Offer::offer_holds))]
 pub fn offer_holds(offer: Offer) -> bool
     ensures { result ≡ offer_holds offer }
@@ -100,8 +101,8 @@ pub fn last_quantity(offer: Offer) -> HubKwh
     offer.quantity[offer.steps - 1]
 }
 
-// The grains from i on, below `limit`, that have the price of grain i under the modified offer: the steps that end at or before grain i
-// are passed, and the last one has no end.
+// The grains from i on, below `limit`, that have the price of grain i under the modified offer: the steps that end at
+// or before grain i are passed, and the last one has no end.
 #[tactic(auto, using(crate::proofs::Steps::holds))]
 pub fn block_at(offer: Offer, commitment: HubKwh, i: HubGrains, limit: HubGrains) -> Block
     requires { (offer_holds offer ≡ true) × (commitment.0 ≤ 1000000000) × (i.0 < limit.0) }
@@ -130,8 +131,8 @@ pub fn block_at(offer: Offer, commitment: HubKwh, i: HubGrains, limit: HubGrains
     }
 }
 
-// What the grains from `from` up to `to` cost under the modified offer, undivided: nothing up to the commitment, then step by step; the
-// last step has no end.
+// What the grains from `from` up to `to` cost under the modified offer, undivided: nothing up to the commitment, then
+// step by step; the last step has no end.
 #[tactic(auto, using(crate::proofs::Steps::holds))]
 pub fn cost_between(offer: Offer, commitment: HubKwh, from: HubGrains, to: HubGrains) -> u64
     requires { (offer_holds offer ≡ true) × (commitment.0 ≤ 1000000000) × (from.0 ≤ to.0) × (to.0 ≤ 100000000000) }

@@ -20,6 +20,7 @@ fn reading_at(units: u64, k: usize, u: UnitRecord) -> NetKwh
 }
 
 // The total of the plant's readings.
+#[tactic(auto, using(finite::proofs::Sums::sum_next, crate::proofs::Readings::reading_most), unfolding(finite::specs::Finite::sum, crate::specs::Readings::readings_total))]
 fn readings_total(hour: Record, units: u64) -> NetKwh
     requires { InRange units hour }
     ensures { result ≡ readings_total hour units }

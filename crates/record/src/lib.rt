@@ -24,6 +24,7 @@ pub struct Span {
 
 // What an hour record says of a unit; a unit without a reading is not measured.
 // `repair` stays a number: the formulas multiply by 1 - repair, and a record may hold any.
+// The spans are the first `spans` of a fixed array: the libraries use no heap, and a record is copied.
 #[derive(Clone, Copy)]
 pub struct UnitRecord {
     pub declared: GrossKwh,

@@ -126,9 +126,6 @@ module _ (sheet : Sheet) (calls text answers : List ℕ) (places n : ℕ) (st : 
             let c = and_left (count_holds b.count (length (list_at sheet calls text d (st.next + b.turns)))) _ (and_right (book_holds sheet (book_in t)) _ k.fits) in
             omega (arith, l, count_list b.count (length (list_at sheet calls text d (st.next + b.turns))) c)
 
-        pub count_grows : st.count ≤ b.count
-        count_grows = omega (arith, made.ahead.counted)
-
         pub batch_goes : (row : List Posting) (stand : Stand) → EntryRows sheet.units hours rows b.filled row
             → stand.next ≡ st.next + b.turns → stand.refusal ≡ None → ran_of stand ≡ record { book = book_in t; count = b.count }
             → Goes sheet calls text answers after places n st (record { row = row; at = st.count; n = b.count - st.count; stand = stand })

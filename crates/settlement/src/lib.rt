@@ -33,20 +33,29 @@ pub struct HourResult {
     pub amounts: [Amounts; 8],
 }
 
-// What availability is paid by in the hour of these rates.
-fn rate_of(rates: Rates) -> AvailabilityRate
-    requires { RatesReady rates }
-    ensures { (result.cpf ≡ rates.cpf) × (result.bar ≡ rates.bar) }
-{
-    AvailabilityRate {
-        cpf: rates.cpf,
-        bar: rates.bar,
+// An hour's rates, which keep the sheet's ranges.
+#[derive(Clone, Copy)]
+struct ReadyRates {
+    hour: Rates,
+    ghost in_range: { RatesReady hour },
+}
+
+impl ReadyRates {
+    // What availability is paid by.
+    fn availability(self) -> AvailabilityRate
+        ensures { (result.cpf ≡ self.hour.cpf) × (result.bar ≡ self.hour.bar) }
+    {
+        AvailabilityRate {
+            cpf: self.hour.cpf,
+            bar: self.hour.bar,
+        }
     }
 }
 
-// What a unit's items go by in an hour, beside the rates: its own use, its offer, its commitment, what the record says of it, and its energy.
+// What a unit's items go by in an hour: the rates, its own use, its offer, its commitment, what the record says of it, and its energy.
 #[derive(Clone, Copy)]
 struct UnitHour {
+    rates: ReadyRates,
     own: u64,
     offer: Offer,
     commitment: HubKwh,
@@ -67,66 +76,72 @@ impl UnitHour {
 
     // Item 2, by the net declared capability.
     #[tactic(auto, using(formulas::proofs::Laws::availability_most, formulas::proofs::Amounts::back), unfolding(crate::specs::Hour::availability_item))]
-    fn availability_item(self, rates: Rates, declared: NetKwh) -> i64
-        requires { RatesReady rates × (declared.0 ≤ 1000000) × (self.commitment.0 ≤ 1000000) }
-        ensures { result ≡ availability_item rates declared self.commitment }
+    fn availability_item(self, declared: NetKwh) -> i64
+        requires { (declared.0 ≤ 1000000) × (self.commitment.0 ≤ 1000000) }
+        ensures { result ≡ availability_item self.rates.hour declared self.commitment }
     {
-        let gate = energy::gate_of(self.commitment, rates.loss);
-        formulas::paid(formulas::availability_pay(declared, gate, rate_of(rates)))
+        let gate = energy::gate_of(self.commitment, self.rates.hour.loss);
+        formulas::paid(formulas::availability_pay(declared, gate, self.rates.availability()))
     }
 
     // Item 3, by the net declared capability, the deviation by kinds and the net declaration ceiling.
     #[tactic(auto, using(formulas::proofs::Laws::refund_most, formulas::proofs::Amounts::back), unfolding(crate::specs::Hour::refund_item))]
-    fn refund_item(self, rates: Rates, declared: NetKwh, d: Deviations, allowed: NetKwh) -> i64
-        requires { RatesReady rates × (declared.0 ≤ 1000000) }
-        ensures { result ≡ refund_item rates declared self.unit.real d allowed }
+    fn refund_item(self, declared: NetKwh, d: Deviations, allowed: NetKwh) -> i64
+        requires { declared.0 ≤ 1000000 }
+        ensures { result ≡ refund_item self.rates.hour declared self.unit.real d allowed }
     {
-        formulas::owed(formulas::refund(declared, self.unit.real, d, allowed, rate_of(rates)))
+        formulas::owed(formulas::refund(
+            declared,
+            self.unit.real,
+            d,
+            allowed,
+            self.rates.availability(),
+        ))
     }
 
     // Item 4, by the deviation by kinds.
     #[tactic(auto, using(charge::proofs::Laws::deviation_most, charge::proofs::Laws::weighted_most, charge::proofs::Charge::charge_most, formulas::proofs::Amounts::back), unfolding(crate::specs::Hour::test_item))]
-    fn test_item(self, rates: Rates, d: Deviations) -> i64
-        requires { RatesReady rates × SplitReady d }
-        ensures { result ≡ test_item rates self.unit.reading self.unit.repair self.unit.since d self.energy }
+    fn test_item(self, d: Deviations) -> i64
+        requires { SplitReady d }
+        ensures { result ≡ test_item self.rates.hour self.unit.reading self.unit.repair self.unit.since d self.energy }
     {
         let unit = self.unit;
         let q = charge::counted_deviation(d, unit.repair);
-        if charge::is_charged(q, unit.reading, self.energy, rates.loss) {
+        if charge::is_charged(q, unit.reading, self.energy, self.rates.hour.loss) {
             let w = charge::weighted(d, unit.repair);
-            return formulas::owed(charge::charge_of(w, unit.since, rate_of(rates)));
+            return formulas::owed(charge::charge_of(w, unit.since, self.rates.availability()));
         }
         0
     }
 
     // The five items. Own use is taken off `declared` and the declaration ceiling; the other figures are net.
-    fn amounts(self, rates: Rates, drawn: u64) -> Amounts
-        requires { RatesReady rates × UnitReady self.own self.offer self.commitment self.unit self.energy × (drawn ≤ 80000000000) }
-        ensures { result ≡ amounts_of rates self.own self.offer self.commitment self.unit self.energy drawn }
+    fn amounts(self, drawn: u64) -> Amounts
+        requires { UnitReady self.own self.offer self.commitment self.unit self.energy × (drawn ≤ 80000000000) }
+        ensures { result ≡ amounts_of self.rates.hour self.own self.offer self.commitment self.unit self.energy drawn }
     {
         let declared = energy::net_of(self.unit.declared, self.own);
-        let ceiling = formulas::declaration_ceiling(rates.season, self.unit.power);
+        let ceiling = formulas::declaration_ceiling(self.rates.hour.season, self.unit.power);
         let allowed = energy::net_of(ceiling, self.own);
         let d = deviation::split(self.own, self.unit);
         Amounts {
             item: [
                 self.energy_item(),
-                self.availability_item(rates, declared),
-                self.refund_item(rates, declared, d, allowed),
-                self.test_item(rates, d),
+                self.availability_item(declared),
+                self.refund_item(declared, d, allowed),
+                self.test_item(d),
                 formulas::owed(drawn),
             ],
         }
     }
 
     // The amounts of the place k, 0 outside the plant. Of the price of the drawn energy all is due of the lowest-numbered unit.
-    fn amounts_at(self, units: u64, k: usize, rates: Rates, drawn: u64) -> Amounts
-        requires { RatesReady rates × (member_at units k ≡ true → UnitReady self.own self.offer self.commitment self.unit self.energy) × (drawn ≤ 80000000000) }
-        ensures { result ≡ cond (member_at units k) (amounts_of rates self.own self.offer self.commitment self.unit self.energy (cond (is_lowest units k) drawn 0)) no_amounts }
+    fn amounts_at(self, units: u64, k: usize, drawn: u64) -> Amounts
+        requires { (member_at units k ≡ true → UnitReady self.own self.offer self.commitment self.unit self.energy) × (drawn ≤ 80000000000) }
+        ensures { result ≡ cond (member_at units k) (amounts_of self.rates.hour self.own self.offer self.commitment self.unit self.energy (cond (is_lowest units k) drawn 0)) no_amounts }
     {
         if units::member_at(units, k) {
             let due = drawn_at(units, k, drawn);
-            return self.amounts(rates, due);
+            return self.amounts(due);
         }
         no_amounts()
     }
@@ -149,25 +164,26 @@ fn drawn_at(units: u64, k: usize, drawn: u64) -> u64
 
 // The amounts of each place, by the units' own use and energies, and the price of the drawn energy.
 fn hour_amounts(
-    rates: Rates,
+    rates: ReadyRates,
     plant: Plant,
     own: [u64; 8],
     hour: Record,
     energy: [HubGrains; 8],
     drawn: u64,
 ) -> [Amounts; 8]
-    requires { RatesReady rates × UnitsReady plant.units own plant.offer plant.commitment hour.unit energy × (drawn ≤ 80000000000) }
-    ensures { result ≡ tabulate 8 (place_amounts rates plant.units own plant.offer plant.commitment hour.unit energy drawn) }
+    requires { UnitsReady plant.units own plant.offer plant.commitment hour.unit energy × (drawn ≤ 80000000000) }
+    ensures { result ≡ tabulate 8 (place_amounts rates.hour plant.units own plant.offer plant.commitment hour.unit energy drawn) }
 {
     array::from_fn(|k| {
         let its = UnitHour {
+            rates: rates,
             own: own[k],
             offer: plant.offer[k],
             commitment: plant.commitment[k],
             unit: hour.unit[k],
             energy: energy[k],
         };
-        its.amounts_at(plant.units, k, rates, drawn)
+        its.amounts_at(plant.units, k, drawn)
     })
 }
 
@@ -193,11 +209,11 @@ pub fn settle_hour(day: HourSheet, hour: Record, commitment: [HubKwh; 8]) -> Hou
     requires { HourDue day hour commitment }
     ensures { result ≡ hour_by day hour commitment }
 {
-    let rates = day.rates;
+    let rates = ReadyRates { hour: day.rates };
     let own = day.own;
     let plant = plant_of(day, hour, commitment);
     let energy = allocation::allocate(hour.net, hour.reverse, plant);
-    let drawn = formulas::drawn_pay(hour.reverse, hour.net, day.ceiling, rates.loss);
+    let drawn = formulas::drawn_pay(hour.reverse, hour.net, day.ceiling, rates.hour.loss);
     let amounts = hour_amounts(rates, plant, own, hour, energy, drawn);
     HourResult {
         energy: energy,

@@ -11,7 +11,8 @@ ghost use Rattle.sheet.specs.Ranges.{offer_at, monthly_of, unit_holds, place_hol
 use energy::GrossKwh;
 use offer::Offer;
 
-// What the sheet says of a unit: own use in ten-thousandths, nominal and monthly practical power, the offers of 24 hours.
+// What the sheet says of a unit: own use in ten-thousandths, nominal and monthly practical power, the offers of 24
+// hours.
 #[derive(Clone, Copy)]
 pub struct UnitSheet {
     pub own: u64,

@@ -10,8 +10,8 @@ use energy::GrossKwh;
 use offer::Offer;
 use sheet::Sheet;
 
-// What an hour's formulas use of the sheet: whether the day lies in the season, the plant's loss, the base availability rate and the
-// hour's capacity payment factor.
+// What an hour's formulas use of the sheet: whether the day lies in the season, the plant's loss, the base
+// availability rate and the hour's capacity payment factor.
 #[derive(Clone, Copy)]
 pub struct Rates {
     pub season: bool,
@@ -20,8 +20,8 @@ pub struct Rates {
     pub cpf: u64,
 }
 
-// What the settlements of a day use of the sheet, but for the offers, by place. It is taken out once for a list of calls, so that the sheet is not
-// handed on.
+// What the settlements of a day use of the sheet, but for the offers, by place. It is taken out once for a list of
+// calls, so that the sheet is not handed on.
 #[derive(Clone, Copy)]
 pub struct DayTerms {
     pub season: bool,

@@ -4,56 +4,54 @@
 use mathlib.Core.Path.{◌≡◌, refl, sym, subst, ◌∙◌, ap}
 use Prim.Native.Nat.{ℕ, ◌-◌, ◌<◌, ◌≤◌}
 use native.Mathlib.Omega.{arith}
-use borrow.Author.Tests.{ltb-true, ltb-false}
-use lib.ListN.{length-set, get_or, replicate, get_or-replicate}
+use Rattle.energy.proofs.Order.{gt_true, gt_false, min_amount}
+use lib.ListN.{length-set, replicate, get_or-replicate}
 use Rattle.energy.specs.declared.HubGrains.{HubGrains}
-use Rattle.offer.specs.Offer.{past_offer}
-use Rattle.offer.specs.Modified.{IsBlock}
-use Rattle.allocation.specs.declared.Pick.TheVariants.{At as at}
+use Rattle.std.specs.declared.option.Option.TheVariants.{Some as at}
 use Rattle.allocation.specs.Fill.{grains_at, next_unit, place, fill}
 use Rattle.allocation.specs.Allocation.{prices_of}
-use Rattle.allocation.specs.Blocks.{block_price, block_end, HasBlock}
+use Rattle.allocation.specs.Blocks.{block_end, HasBlock}
 use Rattle.allocation.proofs.Runs.{place_none, none_over}
 use Rattle.allocation.proofs.Rounds.{same_pick, known, placed, has_after, further}
-use Rattle.allocation.proofs.fill.Goals.{After-lesser-more, In-At}
+use Rattle.allocation.proofs.fill.Goals.{After-min-more, In-Some}
 use Rattle.allocation.proofs.fill.Goals as goal
 
 -- the unit that gets the next grains, its room, and its block
-pick-here : (c : In-At) →
+pick-here : (c : In-Some) →
     let a = c.args in
     let l = c.loop-offers in
-    next_unit (prices_of a.offers a.commitments) (grains_at a.ceilings) 8 l.energies ≡ at c.in-At.u
+    next_unit (prices_of a.offers a.commitments) (grains_at a.ceilings) 8 l.energies ≡ at c.in-Some.u
 pick-here c =
     let a = c.args in
     let l = c.loop-offers in
     sym (same_pick a.offers a.commitments a.ceilings l.energies l.blocks l.invariant.4)
-    ∙ (sym c.cheapest-found.ensures ∙ c.in-At.is)
+    ∙ (sym c.cheapest.ensures.picked ∙ c.in-Some.is)
 
-known-here : (c : In-At) →
+known-here : (c : In-Some) →
     let a = c.args in
     let l = c.loop-offers in
-    let u = c.in-At.u in
+    let u = c.in-Some.u in
     (u < 8) × (grains_at l.energies u < grains_at a.ceilings u)
 known-here c =
     let a = c.args in
     let l = c.loop-offers in
-    known a.offers a.commitments a.ceilings l.energies l.blocks l.invariant.4 c.in-At.u l.invariant.1 (pick-here c)
+    known a.offers a.commitments a.ceilings l.energies l.blocks l.invariant.4 c.in-Some.u l.invariant.1 (pick-here c)
 
 -- a round gives at least one grain, no more than are left and no more than the block has
-more-here : (c : After-lesser-more) →
+more-here : (c : After-min-more) →
     let a = c.args in
     let l = c.loop-offers in
-    let u = c.in-At.u in
-    let m = c.lesser-more.result.0 in
+    let u = c.in-Some.u in
+    let m = c.min-more.result.0 in
     (u < 8) × (grains_at l.energies u < grains_at a.ceilings u) → (0 < m) × (m ≤ l.left.0) × (m ≤ block_end l.blocks u - grains_at l.energies u)
 more-here c k =
     let a = c.args in
     let l = c.loop-offers in
-    let u = c.in-At.u in
+    let u = c.in-Some.u in
     let b = l.invariant.4 u k.0 k.1 in
-    let some = ltb-true 0 l.left.0 (sym c.exceeds.ensures ∙ c.loop-offers-test.true) in
+    let some : 0 < l.left.0 = gt_true l.left.0 0 (sym c.gt.ensures ∙ c.loop-offers-test.true) in
     let e = c.above.ensures in
-    let m = c.lesser-more.ensures in
+    let m = min_amount (λ (g : HubGrains). g.0) _ c.above.result l.left c.min-more.ensures in
     (omega (arith, b.past, some, e, m), omega (arith, m), omega (arith, e, m))
 
 pub loop-offers-init : goal.loop-offers-init
@@ -79,79 +77,37 @@ returns-in_default c =
     let p = prices_of a.offers a.commitments in
     let q =
     sym (same_pick a.offers a.commitments a.ceilings l.energies l.blocks l.invariant.4)
-    ∙ (sym c.cheapest-found.ensures ∙ c.in_default.is) in
+    ∙ (sym c.cheapest.ensures.picked ∙ c.in_default.is) in
     further p (grains_at a.ceilings) (a.total.0 - l.left.0) l.left.0 a.total.0 (replicate 8 (record { 0 = 0 })) l.energies l.energies
     (omega (arith, l.invariant.0)) l.invariant.3 (place_none p (grains_at a.ceilings) 8 l.energies q l.left.0)
-
-pub offset_bounds-energies-u : goal.offset_bounds-energies-u
-offset_bounds-energies-u c = let k = known-here c in omega (arith, k.0)
-
-pub bounds-energies-u : goal.bounds-energies-u
-bounds-energies-u c = let k = known-here c in omega (arith, k.0)
-
-pub offset_bounds-blocks-u : goal.offset_bounds-blocks-u
-offset_bounds-blocks-u c = let k = known-here (goal.at.offset_bounds-blocks-u c).In-At in omega (arith, k.0)
-
-pub bounds-blocks-u : goal.bounds-blocks-u
-bounds-blocks-u c = let k = known-here (goal.at.bounds-blocks-u c).In-At in omega (arith, k.0)
 
 pub plus-grains-requires : goal.plus-grains-requires
 plus-grains-requires c =
     let a = c.args in
     let l = c.loop-offers in
-    let u = c.in-At.u in
-    let m = more-here c (known-here (goal.at.plus-grains-requires c).In-At) in
-    let has = none_over (prices_of a.offers a.commitments) (grains_at a.ceilings) 8 (a.total.0 - l.left.0) l.energies u (known-here (goal.at.plus-grains-requires c).In-At).0 l.invariant.3 in
+    let u = c.in-Some.u in
+    let m = more-here (goal.at.plus-grains-requires c).After-min-more (known-here (goal.at.plus-grains-requires c).In-Some) in
+    let has = none_over (prices_of a.offers a.commitments) (grains_at a.ceilings) 8 (a.total.0 - l.left.0) l.energies u (known-here (goal.at.plus-grains-requires c).In-Some).0 l.invariant.3 in
     omega (arith, has, m.1, l.invariant.0, c.well_formed.1.1.1.0)
-
-pub offset_bounds-offers-u : goal.offset_bounds-offers-u
-offset_bounds-offers-u c = let k = known-here (goal.at.offset_bounds-offers-u c).In-At in omega (arith, k.0)
-
-pub bounds-offers-u : goal.bounds-offers-u
-bounds-offers-u c = let k = known-here (goal.at.bounds-offers-u c).In-At in omega (arith, k.0)
-
-pub offset_bounds-commitments-u : goal.offset_bounds-commitments-u
-offset_bounds-commitments-u c = let k = known-here (goal.at.offset_bounds-commitments-u c).In-At in omega (arith, k.0)
-
-pub bounds-commitments-u : goal.bounds-commitments-u
-bounds-commitments-u c = let k = known-here (goal.at.bounds-commitments-u c).In-At in omega (arith, k.0)
-
-pub offset_bounds-ceilings-u : goal.offset_bounds-ceilings-u
-offset_bounds-ceilings-u c = let k = known-here (goal.at.offset_bounds-ceilings-u c).In-At in omega (arith, k.0)
-
-pub bounds-ceilings-u : goal.bounds-ceilings-u
-bounds-ceilings-u c = let k = known-here (goal.at.bounds-ceilings-u c).In-At in omega (arith, k.0)
-
-pub offset_bounds-energies-u-in-loop-offers : goal.offset_bounds-energies-u-in-loop-offers
-offset_bounds-energies-u-in-loop-offers c = let k = known-here (goal.at.offset_bounds-energies-u-in-loop-offers c).In-At in omega (arith, k.0)
-
-pub bounds-energies-u-in-loop-offers : goal.bounds-energies-u-in-loop-offers
-bounds-energies-u-in-loop-offers c = let k = known-here (goal.at.bounds-energies-u-in-loop-offers c).In-At in omega (arith, k.0)
 
 pub next_block-requires : goal.next_block-requires
 next_block-requires c =
-    let k = known-here (goal.at.next_block-requires c).In-At in
-    λ l. c.requires c.in-At.u k.0 (omega (arith, k.1))
-
-pub offset_bounds-blocks-u-in-loop-offers : goal.offset_bounds-blocks-u-in-loop-offers
-offset_bounds-blocks-u-in-loop-offers c = let k = known-here (goal.at.offset_bounds-blocks-u-in-loop-offers c).In-At in omega (arith, k.0)
-
-pub bounds-blocks-u-in-loop-offers : goal.bounds-blocks-u-in-loop-offers
-bounds-blocks-u-in-loop-offers c = let k = known-here (goal.at.bounds-blocks-u-in-loop-offers c).In-At in omega (arith, k.0)
+    let k = known-here (goal.at.next_block-requires c).In-Some in
+    λ l. c.requires c.in-Some.u k.0 (omega (arith, k.1))
 
 pub loop-offers-smaller : goal.loop-offers-smaller
 loop-offers-smaller c =
-    let m = more-here (goal.at.loop-offers-smaller c).After-lesser-more (known-here (goal.at.loop-offers-smaller c).In-At) in
+    let m = more-here (goal.at.loop-offers-smaller c).After-min-more (known-here (goal.at.loop-offers-smaller c).In-Some) in
     omega (arith, m, c.above-left.ensures)
 
 pub loop-offers-preserved : goal.loop-offers-preserved
 loop-offers-preserved c =
     let a = c.args in
     let l = c.loop-offers in
-    let u = c.in-At.u in
-    let m = c.lesser-more.result.0 in
+    let u = c.in-Some.u in
+    let m = c.min-more.result.0 in
     let grains = c.plus-grains in
-    let more = more-here (goal.at.loop-offers-preserved c).After-lesser-more (known-here (goal.at.loop-offers-preserved c).In-At) in
+    let more = more-here (goal.at.loop-offers-preserved c).After-min-more (known-here (goal.at.loop-offers-preserved c).In-Some) in
     let rest = c.above-left.ensures in
     let p = prices_of a.offers a.commitments in (
       omega (arith, l.invariant.0, rest),
@@ -159,8 +115,8 @@ loop-offers-preserved c =
       simp length-set l.invariant.2,
       further p (grains_at a.ceilings) (a.total.0 - l.left.0) m (a.total.0 - c.above-left.result.0) (replicate 8 (record { 0 = 0 })) l.energies _
           (omega (arith, l.invariant.0, more.1, rest)) l.invariant.3
-          (placed a.offers a.commitments a.ceilings l.energies l.blocks l.invariant.4 u l.invariant.1 (pick-here (goal.at.loop-offers-preserved c).In-At) m grains.result more.2 grains.ensures),
-      has_after a.offers a.commitments a.ceilings l.energies l.blocks l.invariant.4 u l.invariant.1 (pick-here (goal.at.loop-offers-preserved c).In-At) grains.result c.next_block.result
+          (placed a.offers a.commitments a.ceilings l.energies l.blocks l.invariant.4 u l.invariant.1 (pick-here (goal.at.loop-offers-preserved c).In-Some) m grains.result more.2 grains.ensures),
+      has_after a.offers a.commitments a.ceilings l.energies l.blocks l.invariant.4 u l.invariant.1 (pick-here (goal.at.loop-offers-preserved c).In-Some) grains.result c.next_block.result
           l.invariant.2 c.next_block.ensures,
     )
 
@@ -169,6 +125,6 @@ unfolding fill
 returns c =
     let a = c.args in
     let l = c.loop-offers in
-    let none = ltb-false 0 l.left.0 (sym c.exceeds.ensures ∙ c.loop-offers-test.false) in
+    let none : l.left.0 ≤ 0 = gt_false l.left.0 0 (sym c.gt.ensures ∙ c.loop-offers-test.false) in
     let e : a.total.0 - l.left.0 ≡ a.total.0 = omega (arith, none) in
     l.invariant.3 ∙ ap (λ (n : ℕ). place (prices_of a.offers a.commitments) (grains_at a.ceilings) 8 n (replicate 8 (record { 0 = 0 }))) e

@@ -1,7 +1,6 @@
 use mathlib.Core.Path.{◌≡◌}
 use Prim.Native.Nat.{ℕ, ◌-◌, ◌<◌, ◌≤◌}
 use lib.ListN.{length, replicate}
-use Rattle.allocation.specs.declared.Pick.TheVariants.{At as at}
 use Rattle.allocation.specs.Fill.{grains_at, place}
 use Rattle.allocation.specs.Allocation.{prices_of}
 use Rattle.allocation.specs.Blocks.{HasBlock}

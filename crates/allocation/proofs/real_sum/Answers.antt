@@ -1,7 +1,6 @@
 -- The loop's invariant: what is summed is the sum over the places passed, at most 10^6 for each.
 -- Assumes nothing.
-use mathlib.Core.Path.{◌≡◌, refl, ◌∙◌, ap}
-use Prim.Native.Nat.{ℕ, ◌-◌}
+use mathlib.Core.Path.{refl, ap}
 use native.Mathlib.Omega.{arith}
 use Rattle.finite.specs.Finite.{sum as sum_below}
 use Rattle.finite.proofs.Sums.{sum_next}
@@ -11,12 +10,7 @@ use Rattle.allocation.proofs.real_sum.Goals as goal
 
 pub loop-k-init : goal.loop-k-init
 unfolding sum_below
-loop-k-init c = (omega arith, omega arith, refl)
-
-pub plus-sum-requires : goal.plus-sum-requires
-plus-sum-requires c =
-    let l = c.loop-k in
-    omega (arith, ap (λ (n : NetKwh). n.0) c.net_at.ensures, c.requires l.k, l.invariant)
+loop-k-init c = (omega arith, refl)
 
 pub loop-k-preserved : goal.loop-k-preserved
 loop-k-preserved c =
@@ -24,12 +18,4 @@ loop-k-preserved c =
     let e = ap (λ (n : NetKwh). n.0) c.net_at.ensures in
     let p = c.plus-sum.ensures in
     let m = c.requires l.k in
-    (omega arith, omega (arith, e, p, m, l.invariant), omega (arith, e, p, l.invariant.2, sum_next l.k (λ i. (net_at c.args.units c.args.real i).0)))
-
-pub returns : goal.returns
-returns c =
-    let a = c.args in
-    let l = c.loop-k in
-    let all : l.k ≡ 8 = omega arith in
-    let e = l.invariant.2 ∙ ap (λ (n : ℕ). sum_below n (λ i. (net_at a.units a.real i).0)) all in
-    λ i. record { 0 = e i }
+    (omega (arith, e, p, m, l.invariant), omega (arith, e, p, l.invariant.1, sum_next l.k (λ i. (net_at c.args.units c.args.real i).0)))

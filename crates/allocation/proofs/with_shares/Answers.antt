@@ -1,11 +1,11 @@
 -- The loop's invariant: the places passed have their ceilings.
 -- Assumes nothing.
 use mathlib.Core.Path.{◌≡◌, refl, ◌∙◌, ap}
-use Prim.Native.Nat.{ℕ, ◌+◌, ◌-◌, ◌≤◌}
+use Prim.Native.Nat.{◌+◌, ◌≤◌}
 use native.Mathlib.Omega.{arith}
 use lib.ListN.{length-set, get_or}
 use Rattle.finite.specs.Finite.{tabulate}
-use Rattle.finite.proofs.Tables.{filled_next, filled}
+use Rattle.finite.proofs.Tables.{filled_next}
 use Rattle.energy.specs.declared.NetKwh.{NetKwh}
 use Rattle.energy.specs.declared.HubGrains.{HubGrains}
 use Rattle.energy.specs.Energy.{hub_of}
@@ -40,12 +40,7 @@ here c =
 
 pub loop-k-init : goal.loop-k-init
 unfolding tabulate
-loop-k-init c = (omega arith, refl, refl)
-
-pub hub_of-able-requires : goal.hub_of-able-requires
-hub_of-able-requires c =
-    let l = c.loop-k in
-    (omega (arith, ap (λ (n : NetKwh). n.0) c.net_at.ensures, c.requires.0 l.k), c.requires.2)
+loop-k-init c = (refl, refl)
 
 pub plus-requires : goal.plus-requires
 plus-requires c = omega (arith, here c)
@@ -55,17 +50,8 @@ loop-k-preserved c =
     let a = c.args in
     let l = c.loop-k in
     let e = c.plus.ensures ∙ ap (λ (g : HubGrains). g.0 + get_or a.shares l.k 0) (hub-here (goal.at.loop-k-preserved c).After-hub_of-able) in (
-      omega arith,
-      simp length-set l.invariant.1,
+      simp length-set l.invariant.0,
       filled_next (λ i. record { 0 = (hub_of (net_at a.units a.real i) a.loss).0 + get_or a.shares i 0 }) l.ceilings l.k _ (omega arith)
-          l.invariant.2
+          l.invariant.1
           (λ i. record { 0 = e i }),
     )
-
-pub returns : goal.returns
-returns c =
-    let a = c.args in
-    let l = c.loop-k in
-    let f : ℕ → HubGrains = λ i. record { 0 = (hub_of (net_at a.units a.real i) a.loss).0 + get_or a.shares i 0 } in
-    let e : l.k ≡ 8 = omega arith in
-    filled f l.ceilings l.k (omega arith) l.invariant.2 ∙ ap (λ (n : ℕ). tabulate n f) e

@@ -1,5 +1,5 @@
 use mathlib.Core.Path.{◌≡◌}
-use Prim.Native.Nat.{◌+◌, ◌-◌, ◌≤◌}
+use Prim.Native.Nat.{◌+◌}
 use lib.ListN.{length, take, get_or}
 use Rattle.finite.specs.Finite.{tabulate}
 use Rattle.energy.specs.Energy.{hub_of}
@@ -8,9 +8,5 @@ use Rattle.allocation.proofs.with_shares.Given as goal
 
 abbrev pub invariant-loop-k : goal.invariant-loop-k
 invariant-loop-k l =
-    (l.k ≤ 8)
-    × (length l.ceilings ≡ 8)
+    (length l.ceilings ≡ 8)
     × (take l.k l.ceilings ≡ tabulate l.k (λ i. record { 0 = (hub_of (net_at l.units l.real i) l.loss).0 + get_or l.shares i 0 }))
-
-abbrev pub decreases-loop-k : goal.decreases-loop-k
-decreases-loop-k l = 8 - l.k

@@ -1,7 +1,7 @@
 -- Four numbers copied to four places are set one after the other.
 use Rattle.std.proofs.Common.{sym, ◌∙◌, [], ◌∷◌, arith, refl}
 use Rattle.std.proofs.lemmas.Slice.{put_mid-paste}
-use borrow.Author.Tests.{lt-ltb, le-ltb}
+use borrow.Author.Tests.{lt-ltb}
 use Rattle.batch.proofs.Replies.{four_pasted}
 use Rattle.batch.proofs.reply.Goals as goal
 
@@ -10,6 +10,3 @@ returns-then-i-answers c =
     let a = c.args in
     put_mid-paste _ _ _ _ (a.number ∷ a.line ∷ a.posted ∷ a.place ∷ []) 4 c.copy_from_slice.ensures.after (omega arith) refl
     ∙ (four_pasted a.answers.now _ a.number a.line a.posted a.place (omega (arith, c.if-i-answers.true)) ∙ sym (simp (lt-ltb _ _ c.if-i-answers.true)))
-
-pub returns-else-i-answers : goal.returns-else-i-answers
-returns-else-i-answers c = sym (simp (le-ltb _ _ c.if-i-answers.false))

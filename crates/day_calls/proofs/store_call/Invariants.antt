@@ -1,4 +1,3 @@
-use Prim.Native.Nat.{◌-◌}
 use lib.ListN.{get_or}
 use Rattle.ledger.specs.Requests.{call_numbers}
 use Rattle.numbers.proofs.Pasted.{Pasting}
@@ -6,6 +5,3 @@ use Rattle.day_calls.proofs.store_call.Given as goal
 
 abbrev pub invariant-loop-k : goal.invariant-loop-k
 invariant-loop-k l = Pasting call_numbers (λ j. get_or l.number j 0) l.initial.calls l.at l.calls l.k
-
-abbrev pub decreases-loop-k : goal.decreases-loop-k
-decreases-loop-k l = call_numbers - l.k

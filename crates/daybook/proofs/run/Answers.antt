@@ -1,27 +1,22 @@
--- After i turns all is as `ran_all` says for i.
+-- One line more at a time.
 -- Assumes nothing.
-use mathlib.Core.Path.{◌≡◌, refl, sym, ap, ◌∙◌}
-use Prim.Native.Nat.{ℕ, ◌+◌}
-use native.Mathlib.Numerals.{add-one}
-use native.Mathlib.Omega.{arith}
-use mathlib.Core.List.{List}
-use Rattle.sheet.specs.declared.Sheet.{Sheet}
-use Rattle.daybook.specs.Running.{Running, turned, ran_all}
+use mathlib.Core.Path.{refl, sym, ap}
+use Rattle.listing.proofs.Joined.{none_joined, joined_more}
+use Rattle.daybook.specs.Replay.{course, step_line, steps, nth_line}
+use Rattle.daybook.proofs.Steps.{same_bytes, next_steps}
 use Rattle.daybook.proofs.run.Goals as goal
 
-next_ran : (sheet : Sheet) (text : List ℕ) (r x y : Running) (i : ℕ) → x ≡ turned sheet text y → y ≡ ran_all sheet text r i → x ≡ ran_all sheet text r (i + 1)
-unfolding ran_all
-next_ran sheet text r x y i e f = e ∙ (ap (turned sheet text) f ∙ ap (ran_all sheet text r) (sym (add-one i)))
-
 pub loop-i-init : goal.loop-i-init
-unfolding ran_all
-loop-i-init c = (omega arith, refl)
+unfolding steps
+loop-i-init c = record { left = refl; printed = record { same_buffer = refl; bytes_after = sym (none_joined _ _) } }
 
 pub loop-i-preserved : goal.loop-i-preserved
-loop-i-preserved c = (omega arith, next_ran _ _ _ _ _ _ c.turn-stand.ensures c.loop-i.invariant.1)
-
-pub returns : goal.returns
-returns c =
+loop-i-preserved c =
     let g = c.args in
-    let all : c.loop-i.i ≡ g.turns = omega arith in
-    c.loop-i.invariant.1 ∙ ap (ran_all g.sheet g.text.now (record { list = g.list.now; out = g.out.now; stand = g.start })) all
+    let s = course g.list.now g.start in
+    let w = c.loop-i.invariant in
+    let t = c.turn-stand in
+    let line = same_bytes c.loop-i.out t.new.out t.ensures.printed (ap (step_line g.sheet g.text.now) w.left) in record {
+      left = next_steps g.sheet g.text.now s c.loop-i.i _ _ t.ensures.left w.left;
+      printed = joined_more c.loop-i.i (nth_line g.sheet g.text.now s) g.out.now c.loop-i.out t.new.out w.printed line;
+    }

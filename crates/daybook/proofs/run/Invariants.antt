@@ -1,10 +1,12 @@
-use Prim.Native.Nat.{◌-◌, ◌≤◌}
 use mathlib.Core.Path.{◌≡◌}
-use Rattle.daybook.specs.Running.{Running, ran_all}
+use Rattle.decimal.specs.Writer.{Wrote}
+use Rattle.listing.specs.Listing.{joined}
+use Rattle.daybook.specs.Replay.{course, steps, nth_line}
 use Rattle.daybook.proofs.run.Given as goal
 
 abbrev pub invariant-loop-i : goal.invariant-loop-i
-invariant-loop-i l = (l.i ≤ l.turns) × (◌≡◌ {A = Running} (record { list = l.list; out = l.out; stand = l.stand }) (ran_all l.sheet l.text (record { list = l.initial.list; out = l.initial.out; stand = l.fn.start }) l.i))
-
-abbrev pub decreases-loop-i : goal.decreases-loop-i
-decreases-loop-i l = l.turns - l.i
+invariant-loop-i l =
+    record {
+      left : course l.list l.stand ≡ steps l.sheet l.text (course l.fn.list l.fn.start) l.i;
+      printed : Wrote l.fn.out l.out (joined l.i (nth_line l.sheet l.text (course l.fn.list l.fn.start)));
+    }

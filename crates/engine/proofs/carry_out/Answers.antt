@@ -16,11 +16,10 @@ store_hour-requires c =
 pub returns-in-Commitment : goal.returns-in-Commitment
 returns-in-Commitment c =
     rw c.in-Commitment.is
-    (rw c.changed.ensures
     (commitment_carried _ _ (table c.args.commitment.now c.args.mark.now c.args.energy.now c.args.amounts.now) _ _ _ _ _ _
     c.requires.long _ _
-    c.change_of-change.ensures
-    c.change.ensures))
+    c.from-change.ensures
+    c.change.ensures)
 
 pub returns-in-Record : goal.returns-in-Record
 returns-in-Record c =

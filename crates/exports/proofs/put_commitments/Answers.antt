@@ -1,23 +1,17 @@
 -- The loop's invariant: the commitments passed are stored.
 -- Assumes nothing.
 use mathlib.Core.Path.{◌≡◌, refl, sym, ◌∙◌}
-use Prim.Native.Nat.{ℕ, suc, ◌-◌, ◌+◌}
+use Prim.Native.Nat.{ℕ, suc, ◌+◌}
 use native.Mathlib.Omega.{arith}
-use Rattle.exports.proofs.Put.{put_next, put_none, put_end}
+use Rattle.exports.proofs.Put.{put_next, put_none}
 use Rattle.exports.proofs.put_commitments.Goals as goal
 
 pub loop-k-init : goal.loop-k-init
-loop-k-init c = (omega arith, sym (put_none _ _ _))
+loop-k-init c = sym (put_none _ _ _)
 
 pub loop-k-preserved : goal.loop-k-preserved
 loop-k-preserved c =
     let l = c.loop-k in
     let i : ◌≡◌ {A = ℕ} l.k (0 + l.k) = omega arith in
     let n : l.k + 1 ≡ suc l.k = omega arith in
-    (omega arith, c.put_number.ensures ∙ put_next _ l.out 0 _ l.k _ _ _ l.invariant.1 i refl n)
-
-pub returns : goal.returns
-returns c =
-    let l = c.loop-k in
-    let e : l.k ≡ 192 = omega arith in
-    put_end _ l.out 0 _ l.k 192 l.invariant.1 e
+    c.store.ensures ∙ put_next _ l.out 0 _ l.k _ _ _ l.invariant i refl n

@@ -1,20 +1,9 @@
 -- The four places are within the slice where k is below a quarter of its length; each number stored is the definition's.
 -- Assumes nothing.
 use mathlib.Core.Path.{◌∙◌}
-use lib.ListN.{length-set}
-use native.Mathlib.Omega.{arith}
 use Rattle.formulas.proofs.Amounts.{back}
 use Rattle.exports.proofs.Places.{stored_at, stored_past}
 use Rattle.exports.proofs.put_posting.Goals as goal
-
-pub bounds-out-at-then-k-out : goal.bounds-out-at-then-k-out
-bounds-out-at-then-k-out c = simp length-set (omega (arith, c.if-k-out.true))
-
-pub bounds-out-at-then-k-out-2 : goal.bounds-out-at-then-k-out-2
-bounds-out-at-then-k-out-2 c = simp length-set (omega (arith, c.if-k-out.true))
-
-pub bounds-out-at-then-k-out-3 : goal.bounds-out-at-then-k-out-3
-bounds-out-at-then-k-out-3 c = simp length-set (omega (arith, c.if-k-out.true))
 
 pub returns-then-k-out : goal.returns-then-k-out
 returns-then-k-out c =

@@ -4,11 +4,8 @@ use native.Mathlib.Omega.{arith}
 use borrow.Author.Rules.{rules}
 use Rattle.numbers.specs.Numbers.{hour_items, differences}
 use Rattle.numbers.proofs.Packed.{difference_in}
-use Rattle.numbers.proofs.Pasted.{pasting_none, pasting_next, pasting_all}
+use Rattle.numbers.proofs.Pasted.{pasting_next, pasting_all}
 use Rattle.numbers.proofs.differ.Goals as goal
-
-pub loop-j-init : goal.loop-j-init
-loop-j-init c = pasting_none hour_items (difference_in c.args.amounts.now c.args.h c.args.new) c.args.rows.now c.args.at
 
 pub loop-j-preserved : goal.loop-j-preserved
 loop-j-preserved c =

@@ -10,9 +10,6 @@ use Rattle.postings.proofs.Places.{Placed, placed_none, placed_in, placed_out, p
 use Rattle.postings.proofs.places_of.Goals.{then-member_at, else-member_at}
 use Rattle.postings.proofs.places_of.Goals as goal
 
-pub loop-p-init : goal.loop-p-init
-loop-p-init c = placed_none c.args.units
-
 pub offset_bounds-place-block_of : goal.offset_bounds-place-block_of
 offset_bounds-place-block_of c = omega (arith, c.block_of.ensures, members_le c.args.units c.loop-p.p)
 

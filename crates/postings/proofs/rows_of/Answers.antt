@@ -11,23 +11,9 @@ use Rattle.postings.proofs.Entries.{turn, size_most, rows_most, rows_entry}
 use Rattle.postings.proofs.rows_of.Goals.{In-loop-k}
 use Rattle.postings.proofs.rows_of.Goals as goal
 
-pub overflow_mul-size : goal.overflow_mul-size
-overflow_mul-size c = omega (arith, size_most c.args.units (omega (arith, c.requires.0)))
-
-pub overflow_mul-n : goal.overflow_mul-n
-overflow_mul-n c =
-    let most : items * c.unit_count.result ≤ plan_rows = omega (arith, size_most c.args.units (omega (arith, c.requires.0))) in
-    omega (arith, rows_most (items * c.unit_count.result) c.args.filled most c.requires.1)
-
 pub loop-k-init : goal.loop-k-init
 unfolding tabulate
 loop-k-init c = (refl, refl)
-
-pub nonzero_rem-w : goal.nonzero_rem-w
-nonzero_rem-w c =
-    let t = turn c.args.units _ _ c.args.filled c.loop-k.k (omega (arith, c.requires.0))
-    c.places_of-place.ensures (ap (λ (n : ℕ). items * n) c.unit_count.ensures) c.requires.1 c.loop-k-test.true in
-    omega arith
 
 pub loop-k-preserved : goal.loop-k-preserved
 loop-k-preserved c =

@@ -27,9 +27,3 @@ loop-i-preserved c =
     (place ∙ ap (λ (n : ℕ). call_start (decoded (asked_at a.calls.now n))) e)
     (c.reply.ensures ∙ ap (λ (n : ℕ). replied l.answers n a.number 0 0 c.start_of.result) e)
     ∙ ap (refused_from a.calls.now a.number a.answers.now a.first) m
-
-pub returns : goal.returns
-returns c =
-    let a = c.args in
-    let e : c.loop-i.i - a.first ≡ a.n - a.first = omega arith in
-    c.loop-i.invariant ∙ ap (refused_from a.calls.now a.number a.answers.now a.first) e

@@ -8,4 +8,4 @@ use Rattle.settlement.proofs.hour_amounts.Goals as goal
 pub returns : goal.returns
 returns c =
     let a = c.args in
-    tabulate_from_fn (place_amounts a.rates a.plant.units a.own a.plant.offer a.plant.commitment a.hour.unit a.energy a.drawn) _ _ c.from_fn.ensures.items (λ i y q l k. search rules)
+    tabulate_from_fn (place_amounts a.rates.hour a.plant.units a.own a.plant.offer a.plant.commitment a.hour.unit a.energy a.drawn) _ _ c.from_fn.ensures.items (λ i y q l k. search rules)

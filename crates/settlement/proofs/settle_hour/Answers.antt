@@ -18,6 +18,9 @@ energies_here c =
     let a = c.args in
     c.allocate-energy.ensures ∙ ap (energies a.hour.net a.hour.reverse) c.plant_of-plant.ensures
 
+pub invariant_of-rates : goal.invariant_of-rates
+invariant_of-rates c = record { in_range = rates_due c.args.day c.args.hour c.args.commitment c.requires }
+
 pub allocate-energy-requires : goal.allocate-energy-requires
 allocate-energy-requires c =
     let a = c.args in
@@ -32,7 +35,6 @@ pub hour_amounts-amounts-requires : goal.hour_amounts-amounts-requires
 hour_amounts-amounts-requires c =
     let a = c.args in
     let d = drawn_due a.day a.hour a.commitment c.requires in (
-      rates_due a.day a.hour a.commitment c.requires,
       rw (energies_here (goal.at.hour_amounts-amounts-requires c).After-allocate-energy, c.plant_of-plant.ensures) (units_due a.day a.hour a.commitment c.requires),
       omega (arith, c.drawn_pay-drawn.ensures, drawn_most a.hour.reverse a.hour.net a.day.ceiling a.day.rates.loss d.0 d.1),
     )

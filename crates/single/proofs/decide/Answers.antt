@@ -30,11 +30,3 @@ returns-then-not-book_fits c =
     subst (Decides a.sheet a.book a.count a.places x) (sym c.refused_call-then-not-book_fits.ensures)
     (refused_12 a.sheet a.book x a.count a.places holds twelve _
     (c.start_of-start.ensures ∙ start_is a.text.now a.call))
-
-pub decide_in_range-requires : goal.decide_in_range-requires
-decide_in_range-requires c =
-    let a = c.args in
-    let s = c.sheet_holds in
-    let f = c.book_fits in
-    let holds = test_holds s.result (sheet_holds a.sheet) s.ensures c.if-not-sheet_holds.false-raw in
-    (holds, test_holds f.result (book_fits a.sheet a.book a.count a.places true) f.ensures c.if-not-book_fits.false-raw)

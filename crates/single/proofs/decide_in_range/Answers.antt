@@ -42,9 +42,6 @@ carried c =
     matches a.sheet a.book a.count a.places _ _ _ h (call_of a.text.now a.call) (replicate 640 (pos 0)) (left c) c.carry_out-done.new.rows
     c.carry_out-done.result c.carry_out-done.ensures
 
-pub slice_bounds-carry_out-end-2 : goal.slice_bounds-carry_out-end-2
-slice_bounds-carry_out-end-2 c = let s : Sized c.args.book = typed_sized c.args.book _ c.well_formed.1.0 in sym s.mark
-
 pub carry_out-done-requires : goal.carry_out-done-requires
 carry_out-done-requires c =
     let a = c.args in

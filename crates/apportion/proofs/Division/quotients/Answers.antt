@@ -1,0 +1,27 @@
+-- The loop's invariant: the parts passed have their quotients.
+-- Assumes nothing.
+use Rattle.finite.proofs.Tables.{filled_next, filled}
+use Rattle.finite.specs.Finite.{tabulate}
+use Rattle.apportion.specs.Shares.{quotient}
+use lib.ListN.{length, length-set}
+use native.Mathlib.Omega.{arith}
+use Prim.Native.Nat.{ℕ}
+use mathlib.Core.Path.{◌≡◌, refl, ap, ◌∙◌}
+use Rattle.apportion.proofs.Division.quotients.Goals as goal
+
+pub loop-i-init : goal.loop-i-init
+unfolding tabulate
+loop-i-init c = (c.requires, refl)
+
+pub loop-i-preserved : goal.loop-i-preserved
+loop-i-preserved c =
+    let d = c.args.self.now in
+    let l = c.loop-i in
+    (simp length-set l.invariant.0, filled_next (quotient d.all d.total d.weights.now) l.shares l.i _ (omega arith) l.invariant.1 refl)
+
+pub returns : goal.returns
+returns c =
+    let d = c.args.self.now in
+    let l = c.loop-i in
+    let e : l.i ≡ length d.weights.now = omega arith in
+    filled (quotient d.all d.total d.weights.now) l.shares l.i (omega arith) l.invariant.1 ∙ ap (λ (k : ℕ). tabulate k (quotient d.all d.total d.weights.now)) e
