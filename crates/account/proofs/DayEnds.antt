@@ -17,8 +17,6 @@ use Rattle.values.specs.Values.{value_of}
 use Rattle.std.specs.Prelude.{Result, Ok, Err}
 use Rattle.text.specs.declared.Line.{Line}
 use Rattle.text.specs.declared.TextFault.{TextFault}
-use Rattle.lines.specs.declared.ReadAnswer.{ReadAnswer}
-use Rattle.lines.specs.declared.ReadAnswer.TheVariants.{Read, Refused as Unread}
 use Rattle.lines.specs.declared.TextRefusal.{TextRefusal}
 use Rattle.lines.specs.Lines.{place_after}
 use Rattle.sheet.specs.declared.Sheet.{Sheet}
@@ -113,25 +111,25 @@ module _ (s : Sheet) (b : Book) (text : List ℕ) (at count places : ℕ) (poste
       behind : List Row
       behind = record_rows s r (row HourStands (is_settled b r.hour)) count places
 
-      made : Verdict → ReadAnswer → Decision
+      made : Verdict → Result ℕ TextRefusal → Decision
       made v a = by_verdict v (recorded_at s b r (place_behind at a) count) (refused_with b count at)
 
-      read_well : (place : ℕ) → at < place → (v : Verdict) → (made v (Read place)).answer ≡ Ok (Posted n) → at < (made v (Read place)).place
+      read_well : (place : ℕ) → at < place → (v : Verdict) → (made v (Ok place)).answer ≡ Ok (Posted n) → at < (made v (Ok place)).place
       read_well place later (Ok tt) e = later
       read_well place later (Err x) e = absurd (let z : ◌≡◌ {A = ℕ} 0 1 = cc in omega arith)
 
       unread : (x : TextRefusal) (t u : Bool)
-          → let d = made (cond t (Err SheetRange) (cond u (Err BookRange) (Err (Text x)))) (Unread x) in
+          → let d = made (cond t (Err SheetRange) (cond u (Err BookRange) (Err (Text x)))) (Err x) in
           d.answer ≡ Ok (Posted n) → at < d.place
       unread x true u e = absurd (let z : ◌≡◌ {A = ℕ} 0 1 = cc in omega arith)
       unread x false true e = absurd (let z : ◌≡◌ {A = ℕ} 0 1 = cc in omega arith)
       unread x false false e = absurd (let z : ◌≡◌ {A = ℕ} 0 1 = cc in omega arith)
 
-      by : (a : ReadAnswer) → (read_record text at s.units (monthly_of s)).answer ≡ a
+      by : (a : Result ℕ TextRefusal) → (read_record text at s.units (monthly_of s)).answer ≡ a
           → let d = made (verdict (first ++ (text_rows a ++ behind))) a in
           d.answer ≡ Ok (Posted n) → at < d.place
-      by (Read place) e = read_well place (read_place text at s.units (monthly_of s) place e).0 (verdict (first ++ behind))
-      by (Unread x) e = unread x (not (sheet_holds s)) (not (book_fits s b count places posted))
+      by (Ok place) e = read_well place (read_place text at s.units (monthly_of s) place e).0 (verdict (first ++ behind))
+      by (Err x) e = unread x (not (sheet_holds s)) (not (book_fits s b count places posted))
 
 -- after a call that was due nothing is due, or another call for which the count has bytes left
 answered_lasts : (text : List ℕ) (x : Due) (place : ℕ) (a : Answer) → Lasts text x → 0 < x.left

@@ -1,7 +1,7 @@
 -- What the program prints of day.txt (01, Program and marked figures).
+use Rattle.std.specs.Prelude.{Result, Ok, Err}
+use Rattle.lines.specs.declared.TextRefusal.{TextRefusal}
 use Rattle.std.specs.Prelude.{ℕ, cond, List, eqb}
-use Rattle.lines.specs.declared.ReadAnswer.{ReadAnswer}
-use Rattle.lines.specs.declared.ReadAnswer.TheVariants.{Read, Refused}
 use Rattle.lines.specs.Refusals.{text_number}
 use Rattle.sheet.specs.declared.Sheet.{Sheet}
 use Rattle.sheet_text.specs.Day.{read_sheet}
@@ -14,9 +14,9 @@ unfoldable pub day_lines : (units : ℕ) → Day → List ℕ
 day_lines units d = cond (eqb d.refusal 0) (settled_lines units d.book) (refusal_line d.refusal)
 
 -- the day behind a sheet that was read
-abbrev pub lines_by : List ℕ → Sheet → ReadAnswer → List ℕ
-lines_by text s (Read place) = day_lines s.units (day_from s text place)
-lines_by text s (Refused r) = refusal_line (text_number r)
+abbrev pub lines_by : List ℕ → Sheet → Result ℕ TextRefusal → List ℕ
+lines_by text s (Ok place) = day_lines s.units (day_from s text place)
+lines_by text s (Err r) = refusal_line (text_number r)
 
 -- "`statement` reads day.txt (absent: empty): sheet, then (..)"
 unfoldable pub statement_of : List ℕ → List ℕ

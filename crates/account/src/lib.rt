@@ -13,7 +13,6 @@ ghost use Rattle.account.specs.Statement.{day_lines, statement_of};
 use day_calls::Next;
 use decimal::Writer;
 use ledger::{Asked, Effect, Refusal};
-use lines::ReadAnswer;
 use sheet::Sheet;
 use state::Book;
 
@@ -167,15 +166,12 @@ fn put_statement(out: &mut Writer, text: &[u8])
     ensures result_after { Wrote out.old out.new (statement_of text.now) }
     ensures upper_bound { out.new.place ≤ out.old.place + most_bytes }
 {
-    let read = sheet_text::read_sheet(text, 0);
-    let answer = read.answer;
-    let sheet = read.sheet;
-    match answer {
-        ReadAnswer::Read(place) => {
-            let day = day_of(sheet, text, place as usize);
-            put_day(out, sheet.units, &day);
+    match sheet_text::read_sheet(text, 0) {
+        Ok(read) => {
+            let day = day_of(read.sheet, text, read.place as usize);
+            put_day(out, read.sheet.units, &day);
         }
-        ReadAnswer::Refused(refusal) => {
+        Err(refusal) => {
             listing::put_refusal(out, refusal.number());
         }
     }

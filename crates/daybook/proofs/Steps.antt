@@ -1,15 +1,14 @@
 -- One line more: what it leaves and what is printed of it, by what it asks.
 -- Assumes nothing.
+use Rattle.std.specs.Prelude.{Result, Ok, Err}
 use mathlib.Core.Path.{◌≡◌, ap, sym, ◌∙◌}
 use mathlib.Core.List.{List}
 use Prim.Native.Nat.{ℕ, ◌+◌}
 use native.Mathlib.Numerals.{add-one}
 use borrow.Author.Tests.{eq-eqb, ne_eqb}
 use Rattle.sheet.specs.declared.Sheet.{Sheet}
-use Rattle.sheet_text.specs.declared.SheetRead.{SheetRead}
+use Rattle.sheet_text.specs.Day.{SheetTold}
 use Rattle.sheet_text.specs.Day.{read_sheet}
-use Rattle.lines.specs.declared.ReadAnswer.{ReadAnswer}
-use Rattle.lines.specs.declared.ReadAnswer.TheVariants.{Read, Refused}
 use Rattle.lines.specs.declared.TextRefusal.{TextRefusal}
 use Rattle.postings.specs.declared.Posting.{Posting}
 use Rattle.ledger.specs.declared.Outcome.{Outcome}
@@ -66,13 +65,13 @@ unfolding steps
 next_steps sheet text c k x y e f = e ∙ (ap (stepped sheet text) f ∙ ap (steps sheet text c) (sym (add-one k)))
 
 -- what is printed for a text, by its sheet
-pub read_printed : (text : List ℕ) (s : SheetRead) (place : ℕ) → s ≡ read_sheet text 0 → s.answer ≡ Read place
+pub read_printed : (text : List ℕ) (s : SheetTold) (place : ℕ) → s ≡ read_sheet text 0 → s.answer ≡ Ok place
     → call_lines s.sheet text (begun place) (extent_of text place) ≡ replayed text
 unfolding replayed
 read_printed text s place e h =
-    ap (λ (a : ReadAnswer). replayed_by text a s.sheet) (sym h) ∙ ap (λ (x : SheetRead). replayed_by text x.answer x.sheet) e
+    ap (λ (a : Result ℕ TextRefusal). replayed_by text a s.sheet) (sym h) ∙ ap (λ (x : SheetTold). replayed_by text x.answer x.sheet) e
 
-pub refused_printed : (text : List ℕ) (s : SheetRead) (r : TextRefusal) → s ≡ read_sheet text 0 → s.answer ≡ Refused r → sheet_refused r ≡ replayed text
+pub refused_printed : (text : List ℕ) (s : SheetTold) (r : TextRefusal) → s ≡ read_sheet text 0 → s.answer ≡ Err r → sheet_refused r ≡ replayed text
 unfolding replayed
 refused_printed text s r e h =
-    ap (λ (a : ReadAnswer). replayed_by text a s.sheet) (sym h) ∙ ap (λ (x : SheetRead). replayed_by text x.answer x.sheet) e
+    ap (λ (a : Result ℕ TextRefusal). replayed_by text a s.sheet) (sym h) ∙ ap (λ (x : SheetTold). replayed_by text x.answer x.sheet) e

@@ -1,8 +1,8 @@
 -- The bytes that `replay` prints for a text: a list of calls carried out and printed one by one, and behind the last the tables. "Each is carried
 -- out as it comes, over a list of 2,000 places."
+use Rattle.std.specs.Prelude.{Result, Ok, Err}
+use Rattle.lines.specs.declared.TextRefusal.{TextRefusal}
 use Rattle.std.specs.Prelude.{ℕ, zero, suc, ◌+◌, ◌/◌, ◌%◌, cond, List, ◌++◌, eqb, replicate}
-use Rattle.lines.specs.declared.ReadAnswer.{ReadAnswer}
-use Rattle.lines.specs.declared.ReadAnswer.TheVariants.{Read, Refused}
 use Rattle.sheet.specs.declared.Sheet.{Sheet}
 use Rattle.sheet_text.specs.Day.{read_sheet}
 use Rattle.state.specs.declared.Book.{Book}
@@ -86,9 +86,9 @@ ending sheet c e = cond (eqb e.refusal 0) (last_tables sheet c) (stop_line e.lin
 unfoldable pub call_lines : Sheet → List ℕ → Course → Extent → List ℕ
 call_lines sheet text c e = joined e.calls (nth_line sheet text c) ++ ending sheet (steps sheet text c e.calls) e
 
-abbrev pub replayed_by : List ℕ → ReadAnswer → Sheet → List ℕ
-replayed_by text (Read place) sheet = call_lines sheet text (begun place) (extent_of text place)
-replayed_by text (Refused r) sheet = sheet_refused r
+abbrev pub replayed_by : List ℕ → Result ℕ TextRefusal → Sheet → List ℕ
+replayed_by text (Ok place) sheet = call_lines sheet text (begun place) (extent_of text place)
+replayed_by text (Err r) sheet = sheet_refused r
 
 unfoldable pub replayed : List ℕ → List ℕ
 replayed text = replayed_by text (read_sheet text 0).answer (read_sheet text 0).sheet

@@ -11,7 +11,6 @@ ghost use Rattle.daybook.specs.Replay.{course, stepped, step_line, steps, nth_li
 
 use asks::Extent;
 use decimal::Writer;
-use lines::ReadAnswer;
 use postings::Posting;
 use sheet::Sheet;
 use state::Book;
@@ -142,12 +141,9 @@ fn put_day(out: &mut Writer, sheet: Sheet, text: &[u8], from: usize)
 fn put_replay(out: &mut Writer, text: &[u8])
     ensures { Wrote out.old out.new (replayed text.now) }
 {
-    let read = sheet_text::read_sheet(text, 0);
-    let answer = read.answer;
-    let found = read.sheet;
-    match answer {
-        ReadAnswer::Read(place) => put_day(out, found, text, place as usize),
-        ReadAnswer::Refused(refusal) => entries::put_sheet_refused(out, refusal),
+    match sheet_text::read_sheet(text, 0) {
+        Ok(read) => put_day(out, read.sheet, text, read.place as usize),
+        Err(refusal) => entries::put_sheet_refused(out, refusal),
     }
 }
 

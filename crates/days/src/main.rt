@@ -4,7 +4,7 @@
 #![tactic(auto)]
 
 use energy::GrossKwh;
-use lines::{ReadAnswer, TextRefusal};
+use lines::TextRefusal;
 use std::io::{BufWriter, Write};
 use std::rt::Files;
 use std::{env, fs, io};
@@ -37,18 +37,15 @@ fn record_at<W: Write>(
     say(out, name)?;
     say(out, b" record ")?;
     say_number(out, at)?;
-    let read = record_text::read_record(text, at, units, monthly);
-    let answer = read.answer;
-    let found = read.read;
-    match answer {
-        ReadAnswer::Read(place) => {
+    match record_text::read_record(text, at, units, monthly) {
+        Ok(found) => {
             say(out, b" read ")?;
-            say_number(out, place)?;
+            say_number(out, found.place)?;
             say(out, b" hour ")?;
-            say_number(out, found.hour)?;
+            say_number(out, found.read.hour)?;
             say(out, b"\n")
         }
-        ReadAnswer::Refused(refusal) => say_refusal(out, refusal),
+        Err(refusal) => say_refusal(out, refusal),
     }
 }
 
@@ -89,24 +86,21 @@ fn records_of<W: Write>(
 fn sheet_of<W: Write>(out: &mut W, name: &[u8], text: &[u8]) -> io::Result<()> {
     say(out, name)?;
     say(out, b" sheet")?;
-    let read = sheet_text::read_sheet(text, 0);
-    let answer = read.answer;
-    let found = read.sheet;
-    match answer {
-        ReadAnswer::Read(place) => {
+    match sheet_text::read_sheet(text, 0) {
+        Ok(found) => {
             say(out, b" read ")?;
-            say_number(out, place)?;
+            say_number(out, found.place)?;
             say(out, b"\n")?;
             records_of(
                 out,
                 name,
                 text,
-                place as usize,
-                found.units,
-                sheet::monthly_of(found),
+                found.place as usize,
+                found.sheet.units,
+                sheet::monthly_of(found.sheet),
             )
         }
-        ReadAnswer::Refused(refusal) => say_refusal(out, refusal),
+        Err(refusal) => say_refusal(out, refusal),
     }
 }
 

@@ -2,7 +2,7 @@
 -- hour is settled, its energies and amounts after it.
 use Rattle.std.specs.Prelude.{ℕ, Bool, true, false, cond, not, List, ◌++◌, Result, Ok, Err}
 use Rattle.energy.specs.declared.HubKwh.{HubKwh}
-use Rattle.record_text.specs.declared.RecordRead.{RecordRead}
+use Rattle.record_text.specs.Hour.{RecordTold}
 use Rattle.settlement.specs.declared.HourResult.{HourResult}
 use Rattle.terms.specs.declared.HourSheet.{HourSheet}
 use Rattle.settlement.specs.Ranges.{hour_by, proportions_by}
@@ -32,7 +32,7 @@ abbrev pub standing_row : (again settled : Bool) → Row
 standing_row again settled = cond again (row HourOpen (not settled)) (row HourStands settled)
 
 -- settle: text 31 40 32 33 42; a restate (`again`) has 41 in the place of 40
-unfoldable pub record_decided : HourSheet → List HubKwh → (again settled : Bool) → RecordRead → (count places : ℕ) → Result HourChange Refusal
+unfoldable pub record_decided : HourSheet → List HubKwh → (again settled : Bool) → RecordTold → (count places : ℕ) → Result HourChange Refusal
 record_decided day held again settled read count places =
     let r = read.read in
     change_by (verdict (text_rows read.answer ++ record_tests day.units (proportions_by day.units day.own r) r (standing_row again settled) count places))

@@ -2,8 +2,9 @@
 // by what the sheet and the book have of it, and the numbers of answers. The crate `ledger` says what is right.
 #![tactic(auto)]
 
-ghost use Rattle.std.specs.Prelude.{◌≡◌, true, ◌&&◌, ◌||◌, ltb, eqb, ℕ, ◌+◌, ◌<◌};
-ghost use Rattle.lines.specs.declared.ReadAnswer.TheVariants.{Read};
+ghost use Rattle.std.specs.Prelude.{◌≡◌, true, ◌&&◌, ◌||◌, ltb, eqb, ◌+◌, ◌<◌, Ok};
+ghost use Rattle.record_text.specs.Hour.{told};
+ghost use Rattle.record_text.specs.declared.RecordRead.{RecordRead};
 ghost use Rattle.settlement.specs.Ranges.{HourDue};
 ghost use Rattle.ledger.specs.Calls.{verdict, bad_hour, unknown_units, short_of, book_fits};
 ghost use Rattle.ledger.specs.Numbers.{number_of, line_of, posted_of};
@@ -14,7 +15,7 @@ ghost use Rattle.decisions.specs.Hours.{void_decided, standing_row, record_decid
 
 use energy::{Energy, HubKwh};
 use ledger::{Asked, Effect, Refusal};
-use lines::ReadAnswer;
+use lines::TextRefusal;
 use record::Record;
 use record_text::RecordRead;
 use settlement::HourResult;
@@ -334,7 +335,7 @@ fn decide_read(
     places: usize,
 ) -> Result<HourChange, Refusal>
     requires { HourDue day read held }
-    ensures { result ≡ record_decided day held again settled (record { answer = Read place; read = read }) count places }
+    ensures { result ≡ record_decided day held again settled (record { answer = Ok place; read = read }) count places }
 {
     let units = day.units;
     if !record::minutes_hold(read, units) {
@@ -367,28 +368,15 @@ pub fn decide_record(
     held: [HubKwh; 8],
     again: bool,
     settled: bool,
-    reading: RecordRead,
+    reading: Result<RecordRead, TextRefusal>,
     count: u64,
     places: usize,
 ) -> Result<HourChange, Refusal>
-    requires { (place : ℕ) → reading.answer ≡ Read place → HourDue day reading.read held }
-    ensures { result ≡ record_decided day held again settled reading count places }
+    requires { (r : RecordRead) → reading ≡ Ok r → HourDue day r.read held }
+    ensures { result ≡ record_decided day held again settled (told reading) count places }
 {
-    match reading.answer {
-        ReadAnswer::Refused(refusal) => Err(refusal.into()),
-        ReadAnswer::Read(place) => {
-            decide_read(
-                day,
-                held,
-                again,
-                settled,
-                reading.read,
-                place,
-                count,
-                places,
-            )
-        }
-    }
+    let r = reading?;
+    decide_read(day, held, again, settled, r.read, r.place, count, places)
 }
 
 // The part of a text from `begin` to before `end`, as far as the text goes.

@@ -2,6 +2,7 @@
 -- and book: the rows look at nothing else, and a refusal changes nothing, whatever the hour. So an hour that is stored in the table, with the differences
 -- of its amounts in the rows, is the call carried out.
 -- Assumes nothing.
+use Rattle.lines.specs.declared.TextRefusal.{TextRefusal}
 use Rattle.std.specs.Prelude.{Result, Ok, Err}
 use mathlib.Core.Path.{◌≡◌, refl, sym, ◌∙◌, ap, ap₂, subst}
 use mathlib.Core.Bool.{Bool, true, false, cond}
@@ -15,11 +16,9 @@ use lib.Seq.{paste}
 use Rattle.energy.specs.declared.HubKwh.{HubKwh}
 use Rattle.units.specs.Units.{member_at, unit_count}
 use Rattle.units.proofs.Laws.{place_lt}
-use Rattle.lines.specs.declared.ReadAnswer.{ReadAnswer}
-use Rattle.lines.specs.declared.ReadAnswer.TheVariants.{Read as placeRead, Refused as text_refused}
 use Rattle.sheet.specs.declared.Sheet.{Sheet}
 use Rattle.record.specs.declared.Record.{Record}
-use Rattle.record_text.specs.declared.RecordRead.{RecordRead}
+use Rattle.record_text.specs.Hour.{RecordTold}
 use Rattle.settlement.specs.declared.Amounts.{Amounts}
 use Rattle.terms.specs.declared.DayTerms.{DayTerms}
 use Rattle.settlement.specs.declared.HourResult.{HourResult}
@@ -92,22 +91,22 @@ module _ (s : Sheet) (b : Book) (count room : ℕ) where
       (ap (λ (x : HourResult). posted_with s b r.hour settled_mark x place count) (hour_by_lem s r held))
 
   -- the same behind its text: where it was read, the hour's place is that of the record's hour
-  text_on : (again : Bool) (a : ReadAnswer) (r : Record) (start h : ℕ) → ((place : ℕ) → a ≡ placeRead place → (h ≡ r.hour - 1) × (h + 1 ≡ r.hour))
+  text_on : (again : Bool) (a : Result ℕ TextRefusal) (r : Record) (start h : ℕ) → ((place : ℕ) → a ≡ Ok place → (h ≡ r.hour - 1) × (h + 1 ≡ r.hour))
       → decision_of s.units b count h start
       (record_decided (hour_sheet s (h + 1)) (hour_commitments b h) again (eqb (mark_at b h) settled_mark) (record { answer = a; read = r }) count room)
       ≡ by_verdict (verdict (text_rows a ++ record_rows s r (standing_row again (is_settled b r.hour)) count room)) (recorded_at s b r (place_after start a) count)
       (refused_with b count start)
   unfolding verdict record_decided
-  text_on again (placeRead place) r start h at =
+  text_on again (Ok place) r start h at =
       let e = at place refl in
       (λ i. decision_of s.units b count (e.0 i) start
-      (record_decided (hour_sheet s (e.1 i)) (hour_commitments b (e.0 i)) again (eqb (mark_at b (e.0 i)) settled_mark) (record { answer = placeRead place; read = r }) count room))
+      (record_decided (hour_sheet s (e.1 i)) (hour_commitments b (e.0 i)) again (eqb (mark_at b (e.0 i)) settled_mark) (record { answer = Ok place; read = r }) count room))
       ∙ read_on r start place (standing_row again (is_settled b r.hour))
-  text_on again (text_refused x) r start h at = refl
+  text_on again (Err x) r start h at = refl
 
   record_on : (again : Bool) (text : List ℕ) (start h : ℕ)
       → let g = given s text start in
-      ((place : ℕ) → g.answer ≡ placeRead place → (h ≡ g.read.hour - 1) × (h + 1 ≡ g.read.hour))
+      ((place : ℕ) → g.answer ≡ Ok place → (h ≡ g.read.hour - 1) × (h + 1 ≡ g.read.hour))
       → decision_of s.units b count h start (record_decided (hour_sheet s (h + 1)) (hour_commitments b h) again (eqb (mark_at b h) settled_mark) g count room)
       ≡ request_decided s b (request_of s (record_of again text start)) count room
   unfolding request_rows accepted_in
@@ -209,7 +208,7 @@ module _ {terms : DayTerms} {offers : List ℕ} {t : Table} {rows : List ℤ} {e
             ∙ void_on s (book_in t) count room hour h eh);
       }
 
-  pub record_carried : {text : List ℕ} {start : ℕ} {reading : RecordRead} {h : ℕ} {held : List HubKwh} {day : HourSheet}
+  pub record_carried : {text : List ℕ} {start : ℕ} {reading : RecordTold} {h : ℕ} {held : List HubKwh} {day : HourSheet}
       → HourAt terms offers t text start reading h held day → (again : Bool)
       → d ≡ record_decided day held again (eqb (get_or t.mark h 0) settled_mark) reading count room
       → Stored terms.units h entry d t rows t' rows' → r ≡ hour_answer terms.units start d
@@ -226,5 +225,5 @@ module _ {terms : DayTerms} {offers : List ℕ} {t : Table} {rows : List ℤ} {e
             (ap (decision_of s.units (book_in t) count h start)
             (ed ∙ (λ i. record_decided (at_day at s under i) (at_held at i) again settled (g i) count room))
             ∙ record_on s (book_in t) count room again text start h
-            (subst (λ (x : RecordRead). (place : ℕ) → x.answer ≡ placeRead place → (h ≡ x.read.hour - 1) × (h + 1 ≡ x.read.hour)) g (at_place at s under)));
+            (subst (λ (x : RecordTold). (place : ℕ) → x.answer ≡ Ok place → (h ≡ x.read.hour - 1) × (h + 1 ≡ x.read.hour)) g (at_place at s under)));
       }

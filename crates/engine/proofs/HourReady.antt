@@ -1,6 +1,7 @@
 -- What a settle, restate or void rests on. The book's ranges bound the amounts that stand; the sheet's and the record's bound those of a record that was
 -- read; and what is used of the sheet in the record's hour is that of the sheet.
 -- Assumes nothing.
+use Rattle.lines.specs.declared.TextRefusal.{TextRefusal}
 use Rattle.std.specs.Prelude.{Result, Ok, Err}
 use mathlib.Core.Path.{◌≡◌, refl, sym, ◌∙◌, ap, subst}
 use mathlib.Core.Bool.{Bool, true, false}
@@ -16,13 +17,11 @@ use Rattle.finite.proofs.Tables.{tabulate_same}
 use Rattle.energy.specs.declared.HubKwh.{HubKwh}
 use Rattle.units.proofs.Laws.{place_lt}
 use Rattle.offer.specs.declared.Offer.{Offer}
-use Rattle.lines.specs.declared.ReadAnswer.{ReadAnswer}
-use Rattle.lines.specs.declared.ReadAnswer.TheVariants.{Read, Refused}
 use Rattle.sheet.specs.declared.Sheet.{Sheet}
 use Rattle.sheet.specs.Ranges.{unit_at, offer_at}
 use Rattle.sheet.proofs.InRange.{in_range_lem}
 use Rattle.record.specs.declared.Record.{Record}
-use Rattle.record_text.specs.declared.RecordRead.{RecordRead}
+use Rattle.record_text.specs.Hour.{RecordTold}
 use Rattle.record_text.specs.Hour.{read_record}
 use Rattle.record.specs.InRange.{InRange}
 use Rattle.settlement.specs.declared.Amounts.{Amounts}
@@ -117,15 +116,15 @@ void_bounded : (units hour : ℕ) (settled : Bool) (count room : ℕ) (x : HourC
 unfolding void_decided
 void_bounded units hour settled count room = accepted_bounded (verdict (void_tests units hour settled count room)) (hour_changed hour false no_result 0) none_bounded
 
-record_bounded : (day : HourSheet) (held : List HubKwh) (again settled : Bool) (a : ReadAnswer) (r : Record) (count room : ℕ)
-    → ((place : ℕ) → a ≡ Read place → HourDue day r held)
+record_bounded : (day : HourSheet) (held : List HubKwh) (again settled : Bool) (a : Result ℕ TextRefusal) (r : Record) (count room : ℕ)
+    → ((place : ℕ) → a ≡ Ok place → HourDue day r held)
     → (x : HourChange) → record_decided day held again settled (record { answer = a; read = r }) count room ≡ Ok x → Bounded x.result.amounts
 unfolding record_decided verdict
-record_bounded day held again settled (Read place) r count room due =
+record_bounded day held again settled (Ok place) r count room due =
     accepted_bounded
     (verdict (record_tests day.units (proportions_by day.units day.own r) r (standing_row again settled) count room))
     (hour_changed r.hour true (hour_by day r held) place) (due_bounded day r held (due place refl))
-record_bounded day held again settled (Refused q) r count room due = λ x e. absurd (let z : ◌≡◌ {A = ℕ} 0 1 = cc in omega arith)
+record_bounded day held again settled (Err q) r count room due = λ x e. absurd (let z : ◌≡◌ {A = ℕ} 0 1 = cc in omega arith)
 
 -- what storing a change rests on
 module _ {terms : DayTerms} {offers : List ℕ} {t : Table} {rows : List ℤ} {entry count room : ℕ} (ready : Ready terms offers t rows entry count room) where
@@ -151,18 +150,18 @@ module _ {terms : DayTerms} {offers : List ℕ} {t : Table} {rows : List ℤ} {e
       (void_bounded terms.units hour settled count room))
 
 -- what is at hand where a record is decided: what was read, its hour's place, and the hour's commitments, offers and sheet
-pub record HourAt (terms : DayTerms) (offers : List ℕ) (t : Table) (text : List ℕ) (start : ℕ) (reading : RecordRead) (h : ℕ) (held : List HubKwh) (day : HourSheet) : Type 0 where
+pub record HourAt (terms : DayTerms) (offers : List ℕ) (t : Table) (text : List ℕ) (start : ℕ) (reading : RecordTold) (h : ℕ) (held : List HubKwh) (day : HourSheet) : Type 0 where
   pub reading_is : reading ≡ read_record text start terms.units terms.monthly
   pub hour_is : h ≡ hour_index reading.read.hour
   pub held_are : held ≡ held_in t.commitment h
   pub day_is : day ≡ hour_terms terms (h + 1) (tabulate places (λ k. offer_in offers (entry_of h k)))
 
-pub hour_at : {terms : DayTerms} {offers : List ℕ} {t : Table} {text : List ℕ} {start : ℕ} {reading : RecordRead} {h : ℕ} {held : List HubKwh} {offer : List Offer} {day : HourSheet}
+pub hour_at : {terms : DayTerms} {offers : List ℕ} {t : Table} {text : List ℕ} {start : ℕ} {reading : RecordTold} {h : ℕ} {held : List HubKwh} {offer : List Offer} {day : HourSheet}
     → reading ≡ read_record text start terms.units terms.monthly → h ≡ hour_index reading.read.hour → held ≡ held_in t.commitment h
     → offer ≡ tabulate places (λ k. offer_in offers (entry_of h k)) → day ≡ hour_terms terms (h + 1) offer → HourAt terms offers t text start reading h held day
 hour_at {terms = terms} {h = h} er eh ec eo ed = record { reading_is = er; hour_is = eh; held_are = ec; day_is = ed ∙ ap (hour_terms terms (h + 1)) eo }
 
-module _ {terms : DayTerms} {offers : List ℕ} {t : Table} {text : List ℕ} {start : ℕ} {reading : RecordRead} {h : ℕ} {held : List HubKwh} {day : HourSheet}
+module _ {terms : DayTerms} {offers : List ℕ} {t : Table} {text : List ℕ} {start : ℕ} {reading : RecordTold} {h : ℕ} {held : List HubKwh} {day : HourSheet}
     (at : HourAt terms offers t text start reading h held day) where
   pub at_hour : h < hours
   at_hour = omega (arith, hour_lt reading.read.hour, at.hour_is)
@@ -186,10 +185,10 @@ module _ {terms : DayTerms} {offers : List ℕ} {t : Table} {text : List ℕ} {s
         ∙ (ap (λ (x : DayTerms). hour_terms x (h + 1) (tabulate places (λ k. offer_in offers (entry_of h k)))) under.terms_are
         ∙ hour_terms_lem s (h + 1) _ (own ∙ ap (hour_offers s) e))
 
-    module _ (place : ℕ) (read : reading.answer ≡ Read place) where
+    module _ (place : ℕ) (read : reading.answer ≡ Ok place) where
       at_range : InRange s.units reading.read
       at_range =
-          subst (λ (x : RecordRead). x.answer ≡ Read place → InRange s.units x.read) (sym at_reading)
+          subst (λ (x : RecordTold). x.answer ≡ Ok place → InRange s.units x.read) (sym at_reading)
           (given_range s under.holds text start place) read
 
       pub at_place : (h ≡ reading.read.hour - 1) × (h + 1 ≡ reading.read.hour)
@@ -213,7 +212,7 @@ module _ {terms : DayTerms} {offers : List ℕ} {t : Table} {text : List ℕ} {s
           }
 
   module _ {rows : List ℤ} {entry count room : ℕ} (ready : Ready terms offers t rows entry count room) where
-    pub record_due : (place : ℕ) → reading.answer ≡ Read place → HourDue day reading.read held
+    pub record_due : (place : ℕ) → reading.answer ≡ Ok place → HourDue day reading.read held
     record_due place e = at_due ready.sheet ready.under place e ready.fits
 
     pub record_ready : (again settled : Bool) (d : Result HourChange Refusal) → d ≡ record_decided day held again settled reading count room

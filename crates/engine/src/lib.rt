@@ -3,12 +3,15 @@
 #![tactic(auto)]
 
 ghost use Rattle.std.specs.Prelude.{◌≡◌, List, ℕ};
+ghost use Rattle.record_text.specs.Hour.{told};
 ghost use Rattle.decisions.specs.Calls.{record_of, call_of};
 ghost use Rattle.engine.specs.Table.{table, Ready, Carried};
 ghost use Rattle.engine.specs.Stored.{Stored, StoreReady, hour_answer};
 
 use decisions::{Call, CommitmentChange, HourChange};
 use ledger::{Effect, Refusal};
+use lines::TextRefusal;
+use record_text::RecordRead;
 use settlement::HourResult;
 use terms::DayTerms;
 
@@ -64,6 +67,16 @@ fn store_hour(
     }
 }
 
+// The hour of a record that was read, 0 where none was.
+fn hour_of(reading: Result<RecordRead, TextRefusal>) -> u64
+    ensures { result ≡ (told reading).read.hour }
+{
+    match reading {
+        Ok(r) => r.read.hour,
+        Err(_) => 0,
+    }
+}
+
 // A settle, or a restate (`again`): the record is read from byte `start` of the text on.
 fn record_hour(
     commitment: &[u64],
@@ -86,8 +99,7 @@ fn record_hour(
     let units = terms.units;
     let monthly = terms.monthly;
     let reading = record_text::read_record(text, start, units, monthly);
-    let read = reading.read;
-    let h = decisions::hour_index(read.hour);
+    let h = decisions::hour_index(hour_of(reading));
     let settled = mark[h] == 1;
     let held = numbers::held_in(commitment, h);
     let day = terms::hour_sheet(terms, h as u64 + 1, numbers::offers_in(offers, h));

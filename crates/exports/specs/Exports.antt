@@ -1,8 +1,8 @@
 -- A list of calls under a sheet given as a text: what is written into the slices that are lent for it. A slice that is too short gets what it
 -- has room for, and a longer one keeps the rest.
+use Rattle.std.specs.Prelude.{Result, Ok, Err}
+use Rattle.lines.specs.declared.TextRefusal.{TextRefusal}
 use Rattle.std.specs.Prelude.{cond, List, ℕ, zero, suc, ◌+◌, ◌*◌, ◌/◌, min, ltb, ℤ, pos, length, get_or, set, replicate}
-use Rattle.lines.specs.declared.ReadAnswer.{ReadAnswer}
-use Rattle.lines.specs.declared.ReadAnswer.TheVariants.{Read, Refused}
 use Rattle.lines.specs.Refusals.{text_number}
 use Rattle.sheet.specs.declared.Sheet.{Sheet}
 use Rattle.sheet_text.specs.Day.{read_sheet}
@@ -110,10 +110,10 @@ carried_out o held amounts =
       postings = o.postings;
     }
 
-abbrev pub left_by : ReadAnswer → Sheet → (places : ℕ) → (calls text answers held : List ℕ) → (amounts postings : List ℤ) → Left
-left_by (Refused r) sheet places calls text answers held amounts postings =
+abbrev pub left_by : Result ℕ TextRefusal → Sheet → (places : ℕ) → (calls text answers held : List ℕ) → (amounts postings : List ℤ) → Left
+left_by (Err r) sheet places calls text answers held amounts postings =
     refused_sheet (text_number r) r.line answers held amounts postings
-left_by (Read place) sheet places calls text answers held amounts postings =
+left_by (Ok place) sheet places calls text answers held amounts postings =
     carried_out (owned_of sheet places calls text answers postings) held amounts
 
 -- the sheet is the text's, from its first byte on; a longer list than the longest is cut to it

@@ -8,7 +8,6 @@ ghost use Rattle.account.specs.Statement.{statement_of};
 ghost use Rattle.exports.specs.Exports.{commitment_numbers, mark_numbers, energy_numbers, held_numbers, item_numbers, amount_numbers, signed_of, posting_stored, listed_to, most_places, owned_of, called_of};
 
 use batch::Ran;
-use lines::ReadAnswer;
 use postings::Posting;
 use settlement::Amounts;
 use sheet::Sheet;
@@ -173,18 +172,15 @@ pub extern "C" fn gozalvek_calls(
 ) -> u64
     ensures { record { number = result; line = line.new; count = count.new; answers = answers.new; held = held.new; amounts = amounts.new; postings = postings.new } ≡ called_of sheet.now places calls.now text.now answers.old held.old amounts.old postings.old }
 {
-    let read = sheet_text::read_sheet(sheet, 0);
-    let answer = read.answer;
-    let day_sheet = read.sheet;
-    match answer {
-        ReadAnswer::Refused(refusal) => {
+    match sheet_text::read_sheet(sheet, 0) {
+        Err(refusal) => {
             *line = refusal.line;
             *count = 0;
             refusal.number()
         }
-        ReadAnswer::Read(_) => {
+        Ok(read) => {
             let n = length_of(places);
-            let ran = carried_out(day_sheet, n, calls, text, answers, postings);
+            let ran = carried_out(read.sheet, n, calls, text, answers, postings);
             *line = 0;
             *count = ran.count;
             put_held(held, &ran.book);

@@ -1,5 +1,7 @@
 -- What an accepted settle or restate tells: the sheet holds, the record was read, and every value of it is in its range.
 -- Assumes nothing.
+use Rattle.std.specs.Prelude.{Result, Ok, Err}
+use Rattle.lines.specs.declared.TextRefusal.{TextRefusal}
 use mathlib.Core.Path.{◌≡◌, refl}
 use mathlib.Core.Bool.{true, false, ◌&&◌}
 use mathlib.Core.List.{List, [], ◌∷◌, ◌++◌}
@@ -12,8 +14,6 @@ use Rattle.finite.proofs.Tests.{and_left, and_right}
 use Rattle.finite.proofs.Tables.{get_d_tabulate}
 use Rattle.units.specs.Units.{member_at}
 use Rattle.units.proofs.Laws.{place_lt}
-use Rattle.lines.specs.declared.ReadAnswer.{ReadAnswer}
-use Rattle.lines.specs.declared.ReadAnswer.TheVariants.{Read, Refused}
 use Rattle.sheet.specs.declared.Sheet.{Sheet}
 use Rattle.sheet.specs.Ranges.{sheet_holds, monthly_of, unit_at}
 use Rattle.sheet.proofs.InRange.{in_range_lem}
@@ -35,9 +35,9 @@ hour_told hour e =
     let t = not-false (leb 1 hour && leb hour 24) e in
     (leb-true _ _ (and_left (leb 1 hour) (leb hour 24) t), leb-true _ _ (and_right (leb 1 hour) (leb hour 24) t))
 
-read_told : (r : ReadAnswer) (cs : List Condition) → Clear (text_condition r ++ cs) → (place : ℕ) × (r ≡ Read place)
-read_told (Read place) cs c = (place, refl)
-read_told (Refused t) cs (more h c) = absurd (let z : ◌≡◌ {A = ℕ} 0 1 = cc in omega arith)
+read_told : (r : Result ℕ TextRefusal) (cs : List Condition) → Clear (text_condition r ++ cs) → (place : ℕ) × (r ≡ Ok place)
+read_told (Ok place) cs c = (place, refl)
+read_told (Err t) cs (more h c) = absurd (let z : ◌≡◌ {A = ℕ} 0 1 = cc in omega arith)
 
 monthly_small : (sheet : Sheet) → sheet_holds sheet ≡ true → (k : ℕ) → member_at sheet.units k ≡ true
     → (get_or (monthly_of sheet) k (record { 0 = 0 })).0 ≤ 1000000
@@ -47,7 +47,7 @@ monthly_small sheet t k m =
     rw (get_d_tabulate 8 (λ k. (unit_at sheet.unit k).monthly) k (record { 0 = 0 }) l) ((in_range_lem sheet t).unit k l m).monthly
 
 -- a record that was read is in its ranges
-pub given_range : (sheet : Sheet) → sheet_holds sheet ≡ true → (text : List ℕ) (start place : ℕ) → (given sheet text start).answer ≡ Read place
+pub given_range : (sheet : Sheet) → sheet_holds sheet ≡ true → (text : List ℕ) (start place : ℕ) → (given sheet text start).answer ≡ Ok place
     → InRange sheet.units (given sheet text start).read
 given_range sheet t text start place e =
     read_ranges text start sheet.units (monthly_of sheet) place e (omega (arith, (in_range_lem sheet t).units_most)) (monthly_small sheet t)
@@ -56,7 +56,7 @@ given_range sheet t text start place e =
 pub record Taken (sheet : Sheet) (text : List ℕ) (start : ℕ) : Type 0 where
   pub holds : sheet_holds sheet ≡ true
   pub place : ℕ
-  pub read : (given sheet text start).answer ≡ Read place
+  pub read : (given sheet text start).answer ≡ Ok place
   pub range : InRange sheet.units (given sheet text start).read
 
 pub record_told : (sheet : Sheet) (room : ℕ) (l : Ledger) (text : List ℕ) (start : ℕ) (cs : List Condition)

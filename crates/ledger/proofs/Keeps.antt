@@ -2,6 +2,8 @@
 -- and void store the settlement's energies and amounts, or zeros, and pass 42, and each posting is the difference of two amounts within ±10^11.
 -- A refused call changes nothing. No call changes the number of places either.
 -- Assumes nothing.
+use Rattle.std.specs.Prelude.{Result}
+use Rattle.lines.specs.declared.TextRefusal.{TextRefusal}
 use Rattle.std.specs.Prelude.{Ok, Err}
 use mathlib.Core.Path.{◌≡◌, refl, ap, sym, ◌∙◌, subst}
 use mathlib.Core.Bool.{Bool, true, false, ◌&&◌}
@@ -14,8 +16,6 @@ use lib.Seq.{paste, paste-zero, length-paste}
 use Rattle.finite.proofs.Tests.{and_left, and_right, and_both}
 use Rattle.units.specs.Units.{is_member, member_at, unit_count}
 use Rattle.units.proofs.Laws.{member, place_lt}
-use Rattle.lines.specs.declared.ReadAnswer.{ReadAnswer}
-use Rattle.lines.specs.declared.ReadAnswer.TheVariants.{Read, Refused}
 use Rattle.offer.specs.Offer.{last_quantity}
 use Rattle.sheet.specs.declared.Sheet.{Sheet}
 use Rattle.sheet.specs.Ranges.{sheet_holds, unit_at, offer_at}
@@ -58,9 +58,9 @@ pub record Kept (s : Sheet) (st : State) : Type 0 where
   pub fits : fits_in s st ≡ true
 
 -- a text that is not refused was read
-text_passed : (r : ReadAnswer) (rs : List Row) → verdict (text_rows r ++ rs) ≡ Ok tt → (place : ℕ) × (r ≡ Read place)
-text_passed (Read place) rs e = (place, refl)
-text_passed (Refused x) rs e = absurd (let p = (passed _ _ e).0 in let z : ◌≡◌ {A = ℕ} 0 1 = cc in omega arith)
+text_passed : (r : Result ℕ TextRefusal) (rs : List Row) → verdict (text_rows r ++ rs) ≡ Ok tt → (place : ℕ) × (r ≡ Ok place)
+text_passed (Ok place) rs e = (place, refl)
+text_passed (Err x) rs e = absurd (let p = (passed _ _ e).0 in let z : ◌≡◌ {A = ℕ} 0 1 = cc in omega arith)
 
 module _ (s : Sheet) (st : State) where
   -- 12 by its three parts

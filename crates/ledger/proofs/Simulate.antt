@@ -1,5 +1,7 @@
 -- Every call on a book and a journal that agree with a ledger is answered as the ledger answers it, and leaves them in agreement.
 -- Assumes nothing.
+use Rattle.std.specs.Prelude.{Result, Ok, Err}
+use Rattle.lines.specs.declared.TextRefusal.{TextRefusal}
 use mathlib.Core.Path.{◌≡◌, refl, ap, sym, ◌∙◌, subst}
 use mathlib.Core.Bool.{Bool, true, false, not, ◌||◌}
 use mathlib.Core.List.{List, [], ◌∷◌, ◌++◌}
@@ -14,8 +16,6 @@ use Rattle.energy.specs.declared.HubGrains.{HubGrains}
 use Rattle.settlement.specs.declared.Amounts.{Amounts}
 use Rattle.units.specs.Units.{is_member, unit_count}
 use Rattle.units.proofs.Laws.{member}
-use Rattle.lines.specs.declared.ReadAnswer.{ReadAnswer}
-use Rattle.lines.specs.declared.ReadAnswer.TheVariants.{Read, Refused}
 use Rattle.sheet.specs.declared.Sheet.{Sheet}
 use Rattle.sheet.specs.Ranges.{sheet_holds}
 use Rattle.sheet.proofs.InRange.{in_range_lem}
@@ -96,10 +96,10 @@ module _ (sheet : Sheet) (room : ℕ) (st : State) (l : Ledger) (a : Agrees shee
       next refl refl room_same (λ e42. done)))
 
   -- the rows of a record, whose hour is in range where it was read
-  text_beside : (r : ReadAnswer) (rs : List Row) (cs : List Condition) → ((place : ℕ) → r ≡ Read place → Beside rs cs)
+  text_beside : (r : Result ℕ TextRefusal) (rs : List Row) (cs : List Condition) → ((place : ℕ) → r ≡ Ok place → Beside rs cs)
       → Beside (text_rows r ++ rs) (text_condition r ++ cs)
-  text_beside (Read place) rs cs f = f place refl
-  text_beside (Refused t) rs cs f = next refl refl refl (λ (e : true ≡ false). absurd (let z : ◌≡◌ {A = ℕ} 0 1 = cc in omega arith))
+  text_beside (Ok place) rs cs f = f place refl
+  text_beside (Err t) rs cs f = next refl refl refl (λ (e : true ≡ false). absurd (let z : ◌≡◌ {A = ℕ} 0 1 = cc in omega arith))
 
   record_beside : (r : Record) (s : Row) (c : Condition) → refusal_number s.refusal ≡ c.number → refusal_line s.refusal ≡ c.line → s.holds ≡ c.holds
       → Beside (record_rows sheet r s st.count (length st.journal)) (record_conditions sheet room l r c)
@@ -236,9 +236,9 @@ module _ (sheet : Sheet) (room : ℕ) (st : State) (l : Ledger) (a : Agrees shee
         (λ k lk. let e : hour - 1 + 1 ≡ hour = omega arith in
         λ i. record { 0 = (a.commitments (hour - 1) k (omega arith) lk ∙ ap (λ (n : ℕ). l.commitment n (k + 1)) e) i })
 
-    place_same : (start : ℕ) (r : ReadAnswer) → place_after start r ≡ place_of start r
-    place_same start (Read place) = refl
-    place_same start (Refused t) = refl
+    place_same : (start : ℕ) (r : Result ℕ TextRefusal) → place_after start r ≡ place_of start r
+    place_same start (Ok place) = refl
+    place_same start (Err t) = refl
 
     -- an accepted settle or restate
     recorded : (text : List ℕ) (start : ℕ) (q : ℕ) → Taken sheet text start → ledger_fits sheet room l ≡ true → no_room sheet room l ≡ false

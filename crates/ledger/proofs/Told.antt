@@ -1,5 +1,7 @@
 -- The first condition that holds decides: either a call is refused by it and the ledger stays, or none holds and the call has its effect.
 -- Assumes nothing.
+use Rattle.std.specs.Prelude.{Result, Ok, Err}
+use Rattle.lines.specs.declared.TextRefusal.{TextRefusal}
 use mathlib.Core.Path.{◌≡◌, refl}
 use mathlib.Core.Bool.{Bool, true, false, cond, not, ◌&&◌}
 use mathlib.Core.List.{List, [], ◌∷◌, ◌++◌}
@@ -7,8 +9,6 @@ use Prim.Native.Nat.{ℕ, ◌≤◌}
 use lib.Dec.{leb}
 use borrow.Author.Tests.{leb-true}
 use Rattle.finite.proofs.Tests.{and_left, and_right}
-use Rattle.lines.specs.declared.ReadAnswer.{ReadAnswer}
-use Rattle.lines.specs.declared.ReadAnswer.TheVariants.{Read, Refused}
 use Rattle.record_text.proofs.Laws.{refused_number}
 use Rattle.sheet.specs.declared.Sheet.{Sheet}
 use Rattle.ledger.specs.Ledger.{Call, take, release, move, settle, restate, void, Ledger, Outcome, Condition, when, first_of, always, text_condition, take_conditions, release_conditions, move_conditions, record_conditions, void_conditions, stands, given, conditions_of, start_of, effect_of, step}
@@ -45,9 +45,9 @@ numbered_append : (xs bs : List Condition) → Numbered xs → Numbered bs → N
 numbered_append [] bs none n = n
 numbered_append (a ∷ xs) bs (more h m) n = more h (numbered_append xs bs m n)
 
-text_numbered : (r : ReadAnswer) → Numbered (text_condition r)
-text_numbered (Read place) = none
-text_numbered (Refused r) = more (refused_number r).0 none
+text_numbered : (r : Result ℕ TextRefusal) → Numbered (text_condition r)
+text_numbered (Ok place) = none
+text_numbered (Err r) = more (refused_number r).0 none
 
 -- a list of rows that is written out is tested by computing
 positive : List Condition → Bool

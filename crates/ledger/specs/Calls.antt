@@ -1,11 +1,11 @@
 -- The calls on the book and the journal (01, Book and journal): the rows (refusal, condition) of each call in the order in which they are
 -- checked, and what an accepted call changes and posts.
+use Rattle.std.specs.Prelude.{Result}
+use Rattle.lines.specs.declared.TextRefusal.{TextRefusal}
 use Rattle.std.specs.Prelude.{ℕ, ◌+◌, ◌-◌, ◌*◌, min, Bool, true, false, cond, not, ◌&&◌, ◌||◌, List, [], ◌∷◌, ◌++◌, ltb, eqb, length, take as first_of, Ok, Err}
 use Rattle.std.proofs.Math.Seq.{paste}
 use Rattle.energy.specs.declared.GrossKwh.{GrossKwh}
 use Rattle.units.specs.Units.{is_member, unit_count}
-use Rattle.lines.specs.declared.ReadAnswer.{ReadAnswer}
-use Rattle.lines.specs.declared.ReadAnswer.TheVariants.{Read as placeRead, Refused as text_refused}
 use Rattle.sheet.specs.declared.Sheet.{Sheet}
 use Rattle.lines.specs.Refusals.{no_start}
 use Rattle.sheet.specs.Ranges.{sheet_holds, monthly_of}
@@ -41,7 +41,7 @@ pub record Request : Type 0 where
   pub to : ℕ
   pub kwh : ℕ
   pub start : ℕ
-  pub answer : ReadAnswer
+  pub answer : Result ℕ TextRefusal
   pub read : Record
 
 -- what a call comes to: n postings of the plan, stored from place `at` on; the answer and the text place; the count and the book after it
@@ -146,9 +146,9 @@ abbrev pub short_of : (units count places : ℕ) → Bool
 short_of units count places = ltb (min places 100000 - count) (5 * unit_count units)
 
 -- 1 to 4, by what was read
-abbrev pub text_rows : ReadAnswer → List Row
-text_rows (placeRead place) = []
-text_rows (text_refused r) = row (Text r) true ∷ []
+abbrev pub text_rows : Result ℕ TextRefusal → List Row
+text_rows (Ok place) = []
+text_rows (Err r) = row (Text r) true ∷ []
 
 -- settle: text 31 40 32 33 42; restate has 41 in the place of 40. By the plant's mask and whether 33 does not hold
 abbrev pub record_tests : (units : ℕ) → (proportioned : Bool) → Record → Row → (count places : ℕ) → List Row
@@ -216,9 +216,9 @@ posted_with s b hour mark result place count =
     }
 
 -- the text place after a record that was read
-abbrev pub place_after : ℕ → ReadAnswer → ℕ
-place_after start (placeRead place) = place
-place_after start (text_refused r) = start
+abbrev pub place_after : ℕ → Result ℕ TextRefusal → ℕ
+place_after start (Ok place) = place
+place_after start (Err r) = start
 
 -- an accepted settle or restate: the hour's energies and amounts are those of its record
 abbrev pub recorded_at : Sheet → Book → Record → (place count : ℕ) → Decision
@@ -296,8 +296,8 @@ carried_out s st q =
     }
 
 -- the requests of the calls; one without a text has a reading that is refused
-abbrev pub unread : ReadAnswer
-unread = text_refused no_start
+abbrev pub unread : Result ℕ TextRefusal
+unread = Err no_start
 
 abbrev pub plain_request : (kind hour unit to kwh : ℕ) → Request
 plain_request kind hour unit to kwh =

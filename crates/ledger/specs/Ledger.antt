@@ -1,17 +1,17 @@
 -- The plain ledger of document 01 ("Book and journal"): a commitment for each hour and unit, at most one record an hour and a sequence of
 -- postings. It is written from the sheet, the journal list's length and the calls' arguments alone; of the book's definitions it uses none.
+use Rattle.std.specs.Prelude.{Result, Ok, Err}
+use Rattle.lines.specs.declared.TextRefusal.{TextRefusal}
 use Rattle.std.specs.Prelude.{ℕ, zero, suc, ◌+◌, ◌-◌, ◌*◌, min, Bool, true, false, cond, not, ◌&&◌, ◌||◌, List, [], ◌∷◌, ◌++◌, ltb, leb, eqb, ℤ, pos, nat_abs, ◌-ℤ◌, length, get_or}
 use Rattle.finite.specs.Finite.{every, tabulate}
 use Rattle.energy.specs.declared.HubKwh.{HubKwh}
 use Rattle.units.specs.Units.{is_member, member_at, unit_count}
 use Rattle.offer.specs.Offer.{last_quantity}
 use Rattle.lines.specs.Refusals.{text_number}
-use Rattle.lines.specs.declared.ReadAnswer.{ReadAnswer}
-use Rattle.lines.specs.declared.ReadAnswer.TheVariants.{Read, Refused}
 use Rattle.sheet.specs.declared.Sheet.{Sheet}
 use Rattle.sheet.specs.Ranges.{sheet_holds, unit_at, offer_at, monthly_of}
 use Rattle.record.specs.declared.Record.{Record}
-use Rattle.record_text.specs.declared.RecordRead.{RecordRead}
+use Rattle.record_text.specs.Hour.{RecordTold}
 use Rattle.record_text.specs.Hour.{read_record}
 use Rattle.record.specs.Spans.{minutes_hold}
 use Rattle.allocation.specs.Fill.{grains_at}
@@ -149,9 +149,9 @@ abbrev pub no_room : Sheet → ℕ → Ledger → Bool
 no_room sheet room l = ltb (min room 100000 - length l.postings) (5 * unit_count sheet.units)
 
 -- 1 to 4, by the reader
-abbrev pub text_condition : ReadAnswer → List Condition
-text_condition (Read place) = []
-text_condition (Refused r) = record { number = text_number r; line = r.line; holds = true } ∷ []
+abbrev pub text_condition : Result ℕ TextRefusal → List Condition
+text_condition (Ok place) = []
+text_condition (Err r) = record { number = text_number r; line = r.line; holds = true } ∷ []
 
 -- the rows of each call, in the table's order
 abbrev pub take_conditions : Sheet → Ledger → ℕ → ℕ → ℕ → List Condition
@@ -223,12 +223,12 @@ changed l f =
     }
 
 -- the place of a reading, the start where it is refused
-abbrev pub place_of : ℕ → ReadAnswer → ℕ
-place_of start (Read place) = place
-place_of start (Refused r) = start
+abbrev pub place_of : ℕ → Result ℕ TextRefusal → ℕ
+place_of start (Ok place) = place
+place_of start (Err r) = start
 
 -- the record that a settle or a restate gives
-abbrev pub given : Sheet → List ℕ → ℕ → RecordRead
+abbrev pub given : Sheet → List ℕ → ℕ → RecordTold
 given sheet text start = read_record text start sheet.units (monthly_of sheet)
 
 -- the listed conditions of a call, in the order in which they are checked

@@ -2,8 +2,6 @@
 use Rattle.std.specs.Prelude.{ℕ, ◌+◌, Bool, ◌||◌, List, ltb, length, Result, Ok, Err}
 use Rattle.text.specs.Text.{fault_number}
 use Rattle.lines.specs.Lines.{Reading}
-use Rattle.lines.specs.declared.ReadAnswer.{ReadAnswer}
-use Rattle.lines.specs.declared.ReadAnswer.TheVariants.{Read, Refused}
 use Rattle.lines.specs.declared.TextRefusal.{TextRefusal}
 use Rattle.text.specs.declared.TextFault.TheVariants.{TextEnds}
 
@@ -21,6 +19,6 @@ no_start = record { fault = TextEnds; line = 0 }
 
 -- 01, Book and journal, below the table: "Reading stops after the `end` line and gives the place after it"; here of a reading that began
 -- at `start`, whose lines are counted from 1 there. A refusal has the number of the line due
-abbrev pub answer_of : ℕ → Result Reading TextRefusal → ReadAnswer
-answer_of start (Ok s) = Read (start + s.at)
-answer_of start (Err r) = Refused r
+abbrev pub answer_of : ℕ → Result Reading TextRefusal → Result ℕ TextRefusal
+answer_of start (Ok s) = Ok (start + s.at)
+answer_of start (Err r) = Err r

@@ -24,13 +24,6 @@ impl TextRefusal {
     }
 }
 
-// What a reader answers: the place after what was read, or why the text is refused.
-#[derive(Clone, Copy)]
-pub enum ReadAnswer {
-    Read(u64),
-    Refused(TextRefusal),
-}
-
 // How far a text is read: the place of the line due, and how many lines were read before it.
 #[derive(Clone, Copy, PartialEq, Eq)]
 pub struct Cursor {

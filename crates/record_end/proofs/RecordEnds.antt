@@ -25,7 +25,6 @@ use Rattle.lines.specs.declared.TextRefusal.{TextRefusal}
 use Rattle.lines.proofs.Reading.{not_ok, same_ok}
 use Rattle.lines.proofs.Due.{onward, by_next, by_refused}
 use Rattle.lines.proofs.Due as step
-use Rattle.lines.specs.declared.ReadAnswer.TheVariants.{Read}
 use Rattle.record_lines.specs.Rows.{head_rows, spans_row, unit_rows, end_row, head_lines, unit_lines, row_at, due_row, read_lines}
 use Rattle.record_text.specs.Hour.{read_record}
 use Rattle.record_text.proofs.Laws.{ended}
@@ -183,7 +182,7 @@ module _ (text : List ℕ) (n : ℕ) where
       by (Err f) e = absurd (not_ok _ _ (sym (by_refused text (due_row n) (head_lines + unit_lines * n) 1 (head_lines + unit_lines * n + 1) begin f refl e) ∙ good))
 
 -- "a line that is exactly `end=hour`": the first from the record's first byte on is the record's last
-pub record_ends : (text : List ℕ) (start units : ℕ) (monthly : List GrossKwh) (place : ℕ) → (read_record text start units monthly).answer ≡ Read place
+pub record_ends : (text : List ℕ) (start units : ℕ) (monthly : List GrossKwh) (place : ℕ) → (read_record text start units monthly).answer ≡ Ok place
     → behind_record text start ≡ place
 record_ends text start units monthly place read =
     let e = ended text start units monthly place read in

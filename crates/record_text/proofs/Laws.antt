@@ -16,12 +16,11 @@ use Rattle.text.specs.Text.{fault_number}
 use Rattle.text.specs.declared.TextFault.{TextFault}
 use Rattle.lines.specs.declared.TextRefusal.{TextRefusal}
 use Rattle.text.specs.declared.TextFault.TheVariants.{NotDue, BadValue, OfferOrder, TextEnds}
-use Rattle.lines.specs.declared.ReadAnswer.TheVariants.{Read, Refused}
 use Rattle.lines.specs.Lines.{Reading, line_of}
 use Rattle.lines.proofs.Reading.{start_within}
 use Rattle.lines.specs.Cells.{line_in, Kept}
 use Rattle.lines.specs.Refusals.{text_number, no_start, bad_start, answer_of}
-use Rattle.record_text.specs.declared.RecordRead.{RecordRead}
+use Rattle.record_text.specs.Hour.{RecordTold}
 use Rattle.record.specs.Limits.{most_kwh}
 use Rattle.record_lines.specs.Rows.{read_lines}
 use Rattle.record_text.specs.Hour.{record_by, record_of, read_record}
@@ -40,7 +39,7 @@ kept_record text kept units monthly s fits good holds room =
     sym (record_same (line_of s.lines) (line_in kept) units monthly fits (λ k b h. holds k (omega (arith, all.count)) (omega arith)))
 
 module _ (text : List ℕ) (start units : ℕ) (monthly : List GrossKwh) where
-  pub start_bad : bad_start text start ≡ true → read_record text start units monthly ≡ record { answer = Refused no_start; read = no_record }
+  pub start_bad : bad_start text start ≡ true → read_record text start units monthly ≡ record { answer = Err no_start; read = no_record }
   unfolding read_record
   start_bad e = simp e
 
@@ -57,20 +56,20 @@ module _ (text : List ℕ) (start units : ℕ) (monthly : List GrossKwh) where
     pub good : read_lines (drop start text) (ones units) ≡ Ok reading
     pub place_is : place ≡ start + reading.at
 
-  pub ended : (place : ℕ) → (read_record text start units monthly).answer ≡ Read place → Ended place
+  pub ended : (place : ℕ) → (read_record text start units monthly).answer ≡ Ok place → Ended place
   ended place = by (bad_start text start) refl
     where
       told : bad_start text start ≡ false → (r : Result Reading TextRefusal) → read_lines (drop start text) (ones units) ≡ r
-          → answer_of start r ≡ Read place → Ended place
+          → answer_of start r ≡ Ok place → Ended place
       told e (Ok s) f h = record { reading = s; begun = e; good = f; place_is = cc }
       told e (Err q) f h = absurd (let z : ◌≡◌ {A = ℕ} 0 1 = cc in omega arith)
 
-      by : (t : Bool) → bad_start text start ≡ t → (read_record text start units monthly).answer ≡ Read place → Ended place
+      by : (t : Bool) → bad_start text start ≡ t → (read_record text start units monthly).answer ≡ Ok place → Ended place
       by true e h =
-          absurd (let r = ap (λ (x : RecordRead). x.answer) (start_bad e) in let z : ◌≡◌ {A = ℕ} 0 1 = cc in omega arith)
-      by false e h = told e (read_lines (drop start text) (ones units)) refl (sym (ap (λ (x : RecordRead). x.answer) (start_good e)) ∙ h)
+          absurd (let r = ap (λ (x : RecordTold). x.answer) (start_bad e) in let z : ◌≡◌ {A = ℕ} 0 1 = cc in omega arith)
+      by false e h = told e (read_lines (drop start text) (ones units)) refl (sym (ap (λ (x : RecordTold). x.answer) (start_good e)) ∙ h)
 
-  module _ (place : ℕ) (read : (read_record text start units monthly).answer ≡ Read place) where
+  module _ (place : ℕ) (read : (read_record text start units monthly).answer ≡ Ok place) where
     pub read_place : (start < place) × (place ≤ length text)
     read_place =
         let e = ended place read in
@@ -83,22 +82,22 @@ module _ (text : List ℕ) (start units : ℕ) (monthly : List GrossKwh) where
         let e = ended place read in
         let s = e.reading in
         let made : (read_record text start units monthly).read ≡ record_by (line_of s.lines) units monthly =
-        ap (λ (x : RecordRead). x.read) (start_good e.begun) ∙ ap (λ (r : Result Reading TextRefusal). record_of r units monthly) e.good in
+        ap (λ (x : RecordTold). x.read) (start_good e.begun) ∙ ap (λ (r : Result Reading TextRefusal). record_of r units monthly) e.good in
         rw made (record_read units s.lines monthly small bound (whole (drop start text) (ones units) s e.good))
 
   -- a refused reading
-  pub refused_read : (r : TextRefusal) → (read_record text start units monthly).answer ≡ Refused r → (read_record text start units monthly).read ≡ no_record
+  pub refused_read : (r : TextRefusal) → (read_record text start units monthly).answer ≡ Err r → (read_record text start units monthly).read ≡ no_record
   refused_read r = by (bad_start text start) refl
     where
-      told : (x : Result Reading TextRefusal) → answer_of start x ≡ Refused r → record_of x units monthly ≡ no_record
+      told : (x : Result Reading TextRefusal) → answer_of start x ≡ Err r → record_of x units monthly ≡ no_record
       told (Ok s) h = absurd (let z : ◌≡◌ {A = ℕ} 0 1 = cc in omega arith)
       told (Err q) h = refl
 
-      by : (t : Bool) → bad_start text start ≡ t → (read_record text start units monthly).answer ≡ Refused r → (read_record text start units monthly).read ≡ no_record
-      by true e h = ap (λ (x : RecordRead). x.read) (start_bad e)
+      by : (t : Bool) → bad_start text start ≡ t → (read_record text start units monthly).answer ≡ Err r → (read_record text start units monthly).read ≡ no_record
+      by true e h = ap (λ (x : RecordTold). x.read) (start_bad e)
       by false e h =
-          ap (λ (x : RecordRead). x.read) (start_good e)
-          ∙ told (read_lines (drop start text) (ones units)) (sym (ap (λ (x : RecordRead). x.answer) (start_good e)) ∙ h)
+          ap (λ (x : RecordTold). x.read) (start_good e)
+          ∙ told (read_lines (drop start text) (ones units)) (sym (ap (λ (x : RecordTold). x.answer) (start_good e)) ∙ h)
 
 number_range : (f : TextFault) → (1 ≤ fault_number f) × (fault_number f ≤ 4)
 number_range NotDue = (omega arith, omega arith)

@@ -7,7 +7,6 @@ use Rattle.text.specs.declared.Line.{Line}
 use Rattle.lines.specs.Lines.{Reading, line_of, number_of}
 use Rattle.lines.specs.Refusals.{no_start, bad_start, answer_of}
 use Rattle.lines.specs.declared.TextRefusal.{TextRefusal}
-use Rattle.lines.specs.declared.ReadAnswer.TheVariants.{Refused}
 use Rattle.record.specs.declared.Record.{Record}
 use Rattle.record.specs.Empty.{no_record}
 use Rattle.record_lines.specs.Rows.{hour_line, net_line, reverse_line, read_lines}
@@ -29,9 +28,18 @@ abbrev pub record_of : Result Reading TextRefusal → ℕ → List GrossKwh → 
 record_of (Ok s) units monthly = record_by (line_of s.lines) units monthly
 record_of (Err r) units monthly = no_record
 
+-- what a reader tells: the place after what was read, or why the text is refused; and the record, empty where it is
+pub record RecordTold : Type 0 where
+  pub answer : Result ℕ TextRefusal
+  pub read : Record
+
+abbrev pub told : Result RecordRead TextRefusal → RecordTold
+told (Ok r) = record { answer = Ok r.place; read = r.read }
+told (Err r) = record { answer = Err r; read = no_record }
+
 -- a record from `start` on: 4 for size or start first, then the first bad line; "its line numbers start at 1 there"
-unfoldable pub read_record : List ℕ → ℕ → ℕ → List GrossKwh → RecordRead
+unfoldable pub read_record : List ℕ → ℕ → ℕ → List GrossKwh → RecordTold
 read_record text start units monthly =
-    cond (bad_start text start) (record { answer = Refused no_start; read = no_record })
+    cond (bad_start text start) (record { answer = Err no_start; read = no_record })
     (let s = read_lines (drop start text) (unit_count units) in
     record { answer = answer_of start s; read = record_of s units monthly })

@@ -3,20 +3,18 @@
 
 ghost use Rattle.std.specs.Prelude.{◌≡◌};
 ghost use Rattle.lines.specs.Cells.{line_in};
-ghost use Rattle.lines.specs.declared.ReadAnswer.TheVariants.{Refused};
-ghost use Rattle.record.specs.Empty.{no_record};
-ghost use Rattle.record_text.specs.Hour.{record_by, read_record};
+ghost use Rattle.record_text.specs.Hour.{record_by, told, read_record};
 
 use energy::{GrossKwh, NetKwh};
-use lines::{ReadAnswer, TextRefusal};
+use lines::TextRefusal;
 use record::Record;
 use std::array;
 use text::Line;
 
-// What a reader answers, and the record, empty where the text is refused.
+// A record that was read, and the place after it.
 #[derive(Clone, Copy)]
 pub struct RecordRead {
-    pub answer: ReadAnswer,
+    pub place: u64,
     pub read: Record,
 }
 
@@ -32,31 +30,22 @@ fn record_by(kept: &[Line; 84], units: u64, monthly: [GrossKwh; 8]) -> Record
     }
 }
 
-fn refused(refusal: TextRefusal) -> RecordRead
-    ensures { result ≡ record { answer = Refused refusal; read = no_record } }
-{
-    RecordRead {
-        answer: ReadAnswer::Refused(refusal),
-        read: record::no_record(),
-    }
-}
-
 // A record from `start` on in a text, of the plant's units with their monthly practical powers: the record and the place after it, or
 // why the text is refused.
-pub fn read_record(text: &[u8], start: u64, units: u64, monthly: [GrossKwh; 8]) -> RecordRead
-    ensures { result ≡ read_record text.now start units monthly }
+pub fn read_record(
+    text: &[u8],
+    start: u64,
+    units: u64,
+    monthly: [GrossKwh; 8],
+) -> Result<RecordRead, TextRefusal>
+    ensures { told result ≡ read_record text.now start units monthly }
 {
-    let at = match lines::start_in(text, start) {
-        Ok(at) => at,
-        Err(refusal) => return refused(refusal),
-    };
+    let at = lines::start_in(text, start)?;
     let n = units::unit_count(units) as usize;
     let mut kept = [text::no_line(); 84];
-    match record_lines::read_lines(&text[at..], n, &mut kept) {
-        Ok(c) => RecordRead {
-            answer: ReadAnswer::Read((at + c.at) as u64),
-            read: record_by(&kept, units, monthly),
-        },
-        Err(refusal) => refused(refusal),
-    }
+    let c = record_lines::read_lines(&text[at..], n, &mut kept)?;
+    Ok(RecordRead {
+        place: (at + c.at) as u64,
+        read: record_by(&kept, units, monthly),
+    })
 }

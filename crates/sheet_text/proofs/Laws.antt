@@ -9,12 +9,11 @@ use lib.ListN.{length, drop, length-drop}
 use Rattle.std.specs.Prelude.{Result, Ok, Err}
 use Rattle.text.specs.declared.Line.{Line}
 use Rattle.lines.specs.declared.TextRefusal.{TextRefusal}
-use Rattle.lines.specs.declared.ReadAnswer.TheVariants.{Read, Refused}
 use Rattle.lines.specs.Lines.{Reading, line_of, number_of}
 use Rattle.lines.proofs.Reading.{start_within}
 use Rattle.lines.specs.Cells.{line_in, Kept}
 use Rattle.lines.specs.Refusals.{no_start, bad_start, answer_of}
-use Rattle.sheet_text.specs.declared.SheetRead.{SheetRead}
+use Rattle.sheet_text.specs.Day.{SheetTold}
 use Rattle.sheet_lines.specs.Rows.{read_lines}
 use Rattle.sheet_text.specs.Day.{sheet_by, sheet_of, read_sheet}
 use Rattle.sheet.specs.Empty.{no_sheet}
@@ -33,7 +32,7 @@ kept_sheet text kept s good holds room =
     (λ k b h. holds k (omega (arith, all.count)) (omega arith)) refl)
 
 module _ (text : List ℕ) (start : ℕ) where
-  pub start_bad : bad_start text start ≡ true → read_sheet text start ≡ record { answer = Refused no_start; sheet = no_sheet }
+  pub start_bad : bad_start text start ≡ true → read_sheet text start ≡ record { answer = Err no_start; sheet = no_sheet }
   unfolding read_sheet
   start_bad e = simp e
 
@@ -49,19 +48,19 @@ module _ (text : List ℕ) (start : ℕ) where
     pub good : read_lines (drop start text) ≡ Ok reading
     pub place_is : place ≡ start + reading.at
 
-  ended : (place : ℕ) → (read_sheet text start).answer ≡ Read place → Ended place
+  ended : (place : ℕ) → (read_sheet text start).answer ≡ Ok place → Ended place
   ended place = by (bad_start text start) refl
     where
-      told : bad_start text start ≡ false → (r : Result Reading TextRefusal) → read_lines (drop start text) ≡ r → answer_of start r ≡ Read place → Ended place
+      told : bad_start text start ≡ false → (r : Result Reading TextRefusal) → read_lines (drop start text) ≡ r → answer_of start r ≡ Ok place → Ended place
       told e (Ok s) f h = record { reading = s; begun = e; good = f; place_is = cc }
       told e (Err q) f h = absurd (let z : ◌≡◌ {A = ℕ} 0 1 = cc in omega arith)
 
-      by : (t : Bool) → bad_start text start ≡ t → (read_sheet text start).answer ≡ Read place → Ended place
+      by : (t : Bool) → bad_start text start ≡ t → (read_sheet text start).answer ≡ Ok place → Ended place
       by true e h =
-          absurd (let r = ap (λ (x : SheetRead). x.answer) (start_bad e) in let z : ◌≡◌ {A = ℕ} 0 1 = cc in omega arith)
-      by false e h = told e (read_lines (drop start text)) refl (sym (ap (λ (x : SheetRead). x.answer) (start_good e)) ∙ h)
+          absurd (let r = ap (λ (x : SheetTold). x.answer) (start_bad e) in let z : ◌≡◌ {A = ℕ} 0 1 = cc in omega arith)
+      by false e h = told e (read_lines (drop start text)) refl (sym (ap (λ (x : SheetTold). x.answer) (start_good e)) ∙ h)
 
-  module _ (place : ℕ) (read : (read_sheet text start).answer ≡ Read place) where
+  module _ (place : ℕ) (read : (read_sheet text start).answer ≡ Ok place) where
     pub read_place : (start < place) × (place ≤ length text)
     read_place =
         let e = ended place read in
@@ -74,5 +73,5 @@ module _ (text : List ℕ) (start : ℕ) where
         let e = ended place read in
         let s = e.reading in
         let made : (read_sheet text start).sheet ≡ sheet_by (line_of s.lines) =
-        ap (λ (x : SheetRead). x.sheet) (start_good e.begun) ∙ ap sheet_of e.good in
+        ap (λ (x : SheetTold). x.sheet) (start_good e.begun) ∙ ap sheet_of e.good in
         rw made (holds_back (sheet_by (line_of s.lines)) (sheet_read s.lines (whole (drop start text) s e.good)))

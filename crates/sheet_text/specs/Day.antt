@@ -7,7 +7,6 @@ use Rattle.text.specs.declared.Line.{Line}
 use Rattle.lines.specs.Lines.{Reading, line_of, number_of}
 use Rattle.lines.specs.Refusals.{no_start, bad_start, answer_of}
 use Rattle.lines.specs.declared.TextRefusal.{TextRefusal}
-use Rattle.lines.specs.declared.ReadAnswer.TheVariants.{Refused}
 use Rattle.sheet.specs.declared.UnitSheet.{UnitSheet}
 use Rattle.sheet.specs.declared.Sheet.{Sheet}
 use Rattle.sheet_text.specs.declared.SheetRead.{SheetRead}
@@ -55,9 +54,18 @@ abbrev pub sheet_of : Result Reading TextRefusal → Sheet
 sheet_of (Ok s) = sheet_by (line_of s.lines)
 sheet_of (Err r) = no_sheet
 
+-- what a reader tells: the place after what was read, or why the text is refused; and the sheet, empty where it is
+pub record SheetTold : Type 0 where
+  pub answer : Result ℕ TextRefusal
+  pub sheet : Sheet
+
+abbrev pub told : Result SheetRead TextRefusal → SheetTold
+told (Ok r) = record { answer = Ok r.place; sheet = r.sheet }
+told (Err r) = record { answer = Err r; sheet = no_sheet }
+
 -- a sheet from `start` on: 4 for size or start first, then the first bad line
-unfoldable pub read_sheet : List ℕ → ℕ → SheetRead
+unfoldable pub read_sheet : List ℕ → ℕ → SheetTold
 read_sheet text start =
-    cond (bad_start text start) (record { answer = Refused no_start; sheet = no_sheet })
+    cond (bad_start text start) (record { answer = Err no_start; sheet = no_sheet })
     (let s = read_lines (drop start text) in
     record { answer = answer_of start s; sheet = sheet_of s })

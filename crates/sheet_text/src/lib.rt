@@ -3,21 +3,19 @@
 
 ghost use Rattle.std.specs.Prelude.{◌≡◌, ◌≤◌, ◌<◌};
 ghost use Rattle.lines.specs.Cells.{line_in};
-ghost use Rattle.sheet_text.specs.Day.{offer_by, unit_by, place_by, sheet_by, read_sheet};
-ghost use Rattle.sheet.specs.Empty.{no_sheet};
-ghost use Rattle.lines.specs.declared.ReadAnswer.TheVariants.{Refused};
+ghost use Rattle.sheet_text.specs.Day.{offer_by, unit_by, place_by, sheet_by, told, read_sheet};
 
 use energy::{GrossKwh, HubKwh};
-use lines::{ReadAnswer, TextRefusal};
+use lines::TextRefusal;
 use offer::Offer;
 use sheet::{Sheet, UnitSheet};
 use std::array;
 use text::Line;
 
-// What a reader answers, and the sheet, empty where the text is refused.
+// A sheet that was read, and the place after it.
 #[derive(Clone, Copy)]
 pub struct SheetRead {
-    pub answer: ReadAnswer,
+    pub place: u64,
     pub sheet: Sheet,
 }
 
@@ -75,29 +73,15 @@ fn sheet_by(kept: &[Line; 280]) -> Sheet
     }
 }
 
-fn refused(refusal: TextRefusal) -> SheetRead
-    ensures { result ≡ record { answer = Refused refusal; sheet = no_sheet } }
-{
-    SheetRead {
-        answer: ReadAnswer::Refused(refusal),
-        sheet: sheet::no_sheet(),
-    }
-}
-
 // A sheet from `start` on in a text: the sheet and the place after it, or why the text is refused.
-pub fn read_sheet(text: &[u8], start: u64) -> SheetRead
-    ensures { result ≡ read_sheet text.now start }
+pub fn read_sheet(text: &[u8], start: u64) -> Result<SheetRead, TextRefusal>
+    ensures { told result ≡ read_sheet text.now start }
 {
-    let at = match lines::start_in(text, start) {
-        Ok(at) => at,
-        Err(refusal) => return refused(refusal),
-    };
+    let at = lines::start_in(text, start)?;
     let mut kept = [text::no_line(); 280];
-    match sheet_lines::read_lines(&text[at..], &mut kept) {
-        Ok(c) => SheetRead {
-            answer: ReadAnswer::Read((at + c.at) as u64),
-            sheet: sheet_by(&kept),
-        },
-        Err(refusal) => refused(refusal),
-    }
+    let c = sheet_lines::read_lines(&text[at..], &mut kept)?;
+    Ok(SheetRead {
+        place: (at + c.at) as u64,
+        sheet: sheet_by(&kept),
+    })
 }

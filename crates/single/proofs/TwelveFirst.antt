@@ -1,13 +1,12 @@
 -- Of the refusals of a request's own rows none is 9, so that 12 is what goes before them.
 -- Assumes nothing.
+use Rattle.std.specs.Prelude.{Result}
 use Rattle.std.specs.Prelude.{Ok, Err}
 use mathlib.Core.Path.{◌≡◌, refl}
 use mathlib.Core.Bool.{Bool, true, false, cond, not}
 use mathlib.Core.List.{List, [], ◌∷◌, ◌++◌}
 use Prim.Native.Nat.{ℕ}
 use lib.Dec.{eqb}
-use Rattle.lines.specs.declared.ReadAnswer.{ReadAnswer}
-use Rattle.lines.specs.declared.ReadAnswer.TheVariants.{Read, Refused as unread}
 use Rattle.lines.specs.declared.TextRefusal.{TextRefusal}
 use Rattle.text.specs.declared.TextFault.{TextFault}
 use Rattle.text.specs.declared.TextFault.TheVariants.{NotDue, BadValue, OfferOrder, TextEnds}
@@ -56,9 +55,9 @@ module _ (s : Sheet) (b : Book) (q : Request) (count places : ℕ) where
       own : OtherThan9 (verdict (record_rows s q.read (row standing holds) count places))
       own = other_row _ _ refl (other_row _ _ e (other_row _ _ refl (other_row _ _ refl (other_row _ _ refl none))))
 
-      by : (a : ReadAnswer) → OtherThan9 (verdict (text_rows a ++ record_rows s q.read (row standing holds) count places))
-      by (Read place) = own
-      by (unread t) = other_row _ _ (other_text t) own
+      by : (a : Result ℕ TextRefusal) → OtherThan9 (verdict (text_rows a ++ record_rows s q.read (row standing holds) count places))
+      by (Ok place) = own
+      by (Err t) = other_row _ _ (other_text t) own
 
   other_rows : OtherThan9 (verdict (request_rows s b q count places))
   unfolding request_rows nine_first

@@ -2,8 +2,7 @@
 -- Assumes nothing.
 use Prim.Native.Nat.{ℕ}
 use mathlib.Core.Path.{ap, sym, ◌∙◌}
-use Rattle.lines.specs.declared.ReadAnswer.{ReadAnswer}
-use Rattle.sheet_text.specs.declared.SheetRead.{SheetRead}
+use Rattle.sheet_text.specs.Day.{SheetTold}
 use Rattle.sheet.specs.Ranges.{sheet_holds}
 use Rattle.sheet_text.proofs.Laws.{read_holds}
 use Rattle.decimal.specs.Output.{written}
@@ -15,34 +14,31 @@ use Rattle.account.proofs.put_statement.Goals as goal
 
 pub day_of-day-requires : goal.day_of-day-requires
 day_of-day-requires c =
-    let e = c.read_sheet-read.ensures in
-    ap (λ (x : SheetRead). sheet_holds x.sheet) e
-    ∙ read_holds _ 0 _ (sym (ap (λ (x : SheetRead). x.answer) e) ∙ c.in-Read.is)
+    let e = rw c.in-Ok.is at c.read_sheet.ensures in
+    ap (λ (x : SheetTold). sheet_holds x.sheet) e ∙ read_holds _ 0 _ (sym (ap (λ (x : SheetTold). x.answer) e))
 
-pub returns-in-Read-clause-result_after : goal.returns-in-Read-clause-result_after
+pub returns-in-Ok-clause-result_after : goal.returns-in-Ok-clause-result_after
 unfolding statement_of
-returns-in-Read-clause-result_after c =
+returns-in-Ok-clause-result_after c =
     let g = c.args in
     let o = held g.out.now in
-    let r = c.read_sheet-read.result in
+    let e = rw c.in-Ok.is at c.read_sheet.ensures in
     let w = c.put_day.ensures.result_after in record {
       same_buffer = w.same_buffer;
       bytes_after = w.bytes_after
-          ∙ (ap (λ (d : Day). written o (day_lines r.sheet.units d)) c.day_of-day.ensures
-          ∙ (ap (λ (a : ReadAnswer). written o (lines_by g.text.now r.sheet a)) (sym c.in-Read.is)
-          ∙ ap (λ (x : SheetRead). written o (lines_by g.text.now x.sheet x.answer)) c.read_sheet-read.ensures));
+          ∙ (ap (λ (d : Day). written o (day_lines c.in-Ok.read.sheet.units d)) c.day_of-day.ensures
+          ∙ ap (λ (x : SheetTold). written o (lines_by g.text.now x.sheet x.answer)) e);
     }
 
-pub returns-in-Refused-clause-result_after : goal.returns-in-Refused-clause-result_after
+pub returns-in-Err-clause-result_after : goal.returns-in-Err-clause-result_after
 unfolding statement_of
-returns-in-Refused-clause-result_after c =
+returns-in-Err-clause-result_after c =
     let g = c.args in
     let o = held g.out.now in
-    let r = c.read_sheet-read.result in
+    let e = rw c.in-Err.is at c.read_sheet.ensures in
     let w = c.put_refusal.ensures.result_after in record {
       same_buffer = w.same_buffer;
       bytes_after = w.bytes_after
           ∙ (ap (λ (n : ℕ). written o (refusal_line n)) c.number.ensures
-          ∙ (ap (λ (a : ReadAnswer). written o (lines_by g.text.now r.sheet a)) (sym c.in-Refused.is)
-          ∙ ap (λ (x : SheetRead). written o (lines_by g.text.now x.sheet x.answer)) c.read_sheet-read.ensures));
+          ∙ ap (λ (x : SheetTold). written o (lines_by g.text.now x.sheet x.answer)) e);
     }

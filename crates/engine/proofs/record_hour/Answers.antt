@@ -3,23 +3,37 @@
 -- Assumes nothing.
 use Rattle.engine.proofs.HourReady.{hour_at, record_due, record_ready}
 use Rattle.engine.proofs.HourDecided.{record_carried}
+use mathlib.Core.Path.{◌≡◌, ap, subst, ◌∙◌}
+use Prim.Native.Nat.{ℕ}
+use Rattle.std.specs.Prelude.{Result, Ok}
+use Rattle.lines.specs.declared.TextRefusal.{TextRefusal}
+use Rattle.record.specs.declared.Record.{Record}
+use Rattle.record_text.specs.declared.RecordRead.{RecordRead}
+use Rattle.record_text.specs.Hour.{told}
+use Rattle.settlement.specs.Ranges.{HourDue}
+use Rattle.decisions.specs.Changes.{hour_index}
 use Rattle.engine.proofs.record_hour.Goals as goal
+
+-- a record that was read, told by its place
+due_read : (P : Record → Type 0) (x : Result RecordRead TextRefusal) → ((place : ℕ) → (told x).answer ≡ Ok place → P (told x).read) → (r : RecordRead) → x ≡ Ok r → P r.read
+due_read P x f r e = subst P (ap (λ (z : Result RecordRead TextRefusal). (told z).read) e) (f r.place (ap (λ (z : Result RecordRead TextRefusal). (told z).answer) e))
 
 pub decide_record-decided-requires : goal.decide_record-decided-requires
 decide_record-decided-requires c =
-    record_due
+    due_read (λ (x : Record). HourDue c.hour_sheet-day.result x c.held_in-held.result) c.read_record-reading.result
+    (record_due
     (hour_at c.read_record-reading.ensures
-    c.hour_index-h.ensures.value
+    (c.hour_index-h.ensures.value ∙ ap hour_index c.hour_of.ensures)
     c.held_in-held.ensures
     c.offers_in.ensures
     c.hour_sheet-day.ensures)
-    c.requires
+    c.requires)
 
 pub store_hour-requires : goal.store_hour-requires
 store_hour-requires c =
     record_ready
     (hour_at c.read_record-reading.ensures
-    c.hour_index-h.ensures.value
+    (c.hour_index-h.ensures.value ∙ ap hour_index c.hour_of.ensures)
     c.held_in-held.ensures
     c.offers_in.ensures
     c.hour_sheet-day.ensures)
@@ -31,7 +45,7 @@ returns c =
     record_carried
     c.requires _ _ _ _
     (hour_at c.read_record-reading.ensures
-    c.hour_index-h.ensures.value
+    (c.hour_index-h.ensures.value ∙ ap hour_index c.hour_of.ensures)
     c.held_in-held.ensures
     c.offers_in.ensures
     c.hour_sheet-day.ensures) _

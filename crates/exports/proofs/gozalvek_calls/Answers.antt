@@ -8,12 +8,14 @@ use Rattle.exports.proofs.gozalvek_calls.Goals as goal
 pub carried_out-ran-requires : goal.carried_out-ran-requires
 carried_out-ran-requires c = omega (arith, c.length_of-n.ensures)
 
-pub returns-in-Refused : goal.returns-in-Refused
-returns-in-Refused c =
+pub returns-in-Err : goal.returns-in-Err
+returns-in-Err c =
     let a = c.args in
-    called_refused a.sheet.now a.places a.calls.now a.text.now a.answers.now a.held.now a.amounts.now a.postings.now _ c.read_sheet-read.ensures _ _ _ c.in-Refused.is c.number.ensures refl
+    let t = rw c.in-Err.is at c.read_sheet.ensures in
+    called_refused a.sheet.now a.places a.calls.now a.text.now a.answers.now a.held.now a.amounts.now a.postings.now _ t _ _ _ refl c.number.ensures refl
 
-pub returns-in-Read : goal.returns-in-Read
-returns-in-Read c =
+pub returns-in-Ok : goal.returns-in-Ok
+returns-in-Ok c =
     let a = c.args in
-    called_read a.sheet.now a.places a.calls.now a.text.now a.answers.now a.held.now a.amounts.now a.postings.now _ c.read_sheet-read.ensures _ _ _ _ _ c.in-Read.is c.length_of-n.ensures c.carried_out-ran.ensures c.put_held.ensures c.put_amounts.ensures
+    let t = rw c.in-Ok.is at c.read_sheet.ensures in
+    called_read a.sheet.now a.places a.calls.now a.text.now a.answers.now a.held.now a.amounts.now a.postings.now _ t _ _ _ _ _ refl c.length_of-n.ensures c.carried_out-ran.ensures c.put_held.ensures c.put_amounts.ensures

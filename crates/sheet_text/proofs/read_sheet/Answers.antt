@@ -1,69 +1,72 @@
 -- The part of the text from the start on is read; what is kept is what the definition reads.
 -- Assumes nothing.
+use Rattle.std.specs.Prelude.{Ok, Err}
 use mathlib.Core.Path.{◌≡◌, ap, sym, ◌∙◌}
 use mathlib.Core.List.{List}
 use mathlib.Core.Bool.{false}
 use Prim.Native.Nat.{ℕ, ◌+◌, ◌-◌}
 use native.Mathlib.Omega.{arith}
 use lib.ListN.{length, take, drop, length-drop}
+use Rattle.std.proofs.lemmas.Result.{err_from_is_err_and}
 use Rattle.text.proofs.Walk.{rest}
 use Rattle.lines.specs.declared.Cursor.{Cursor}
 use Rattle.lines.specs.declared.TextRefusal.{TextRefusal}
-use Rattle.lines.specs.declared.ReadAnswer.TheVariants.{Read, Refused}
 use Rattle.lines.specs.Cells.{cursors}
 use Rattle.lines.specs.Refusals.{bad_start, answer_of}
 use Rattle.lines.proofs.Reading.{start_within, started, not_started}
 use Rattle.lines.proofs.Cursors as cursor
 use Rattle.sheet_lines.specs.Rows.{read_lines}
 use Rattle.sheet_lines.proofs.Facts.{place_in}
-use Rattle.sheet_text.specs.declared.SheetRead.{SheetRead}
+use Rattle.sheet_text.specs.Day.{SheetTold}
 use Rattle.sheet_text.specs.Day.{sheet_of}
 use Rattle.sheet.specs.Empty.{no_sheet}
 use Rattle.sheet_text.proofs.Laws.{start_bad, start_good, kept_sheet}
-use Rattle.sheet_text.proofs.read_sheet.Goals.{In-Ok, After-read_lines}
+use Rattle.sheet_text.proofs.read_sheet.Goals.{In_ok-at, After-read_lines}
 use Rattle.sheet_text.proofs.read_sheet.Goals as goal
 
 -- the start is good, and the part from there on is read
-begun : (c : In-Ok) → (bad_start c.args.text.now c.args.start ≡ false) × (c.in-Ok.at ≡ c.args.start)
-begun c = started _ _ _ (sym c.start_in.ensures ∙ c.in-Ok.is)
+begun : (c : In_ok-at) → (bad_start c.args.text.now c.args.start ≡ false) × (c.in_ok-at.at ≡ c.args.start)
+begun c = started _ _ _ (sym c.start_in.ensures ∙ c.in_ok-at.was)
 
 part : (text : List ℕ) (start at : ℕ) → at ≡ start → take (length text - at) (drop at text) ≡ drop start text
 part text start at e = rest text at ∙ ap (λ (n : ℕ). drop n text) e
 
-read : (c : After-read_lines) → c.in-Ok.at ≡ c.args.start → c.read_lines.result ≡ cursors (read_lines (drop c.args.start c.args.text.now))
-read c e = c.read_lines.ensures.cursor ∙ ap (λ (t : List ℕ). cursors (read_lines t)) (part c.args.text.now c.args.start c.in-Ok.at e)
+read : (c : After-read_lines) → c.in_ok-at.at ≡ c.args.start → c.read_lines.result ≡ cursors (read_lines (drop c.args.start c.args.text.now))
+read c e = c.read_lines.ensures.cursor ∙ ap (λ (t : List ℕ). cursors (read_lines t)) (part c.args.text.now c.args.start c.in_ok-at.at e)
 
-pub returns-in-Err : goal.returns-in-Err
-returns-in-Err c =
-    let b = not_started _ _ _ (sym c.start_in.ensures ∙ c.in-Err.is) in
-    c.refused.ensures
-    ∙ (ap {B = SheetRead} (λ (r : TextRefusal). record { answer = Refused r; sheet = no_sheet }) b.1 ∙ sym (start_bad c.args.text.now c.args.start b.0))
+pub returns-in_err-at : goal.returns-in_err-at
+returns-in_err-at c =
+    let p = err_from_is_err_and c.from_residual.result c.from_residual.ensures.1 in
+    let b = not_started _ _ _ (sym c.start_in.ensures ∙ c.in_err-at.was) in
+    rw (p.1, p.2)
+    (ap {B = SheetTold} (λ (r : TextRefusal). record { answer = Err r; sheet = no_sheet }) b.1 ∙ sym (start_bad c.args.text.now c.args.start b.0))
 
 pub overflow_add-result : goal.overflow_add-result
 overflow_add-result c =
     let g = c.args in
-    let b = begun (goal.at.overflow_add-result c).In-Ok in
-    let x = cursor.cursors_ok _ _ (sym c.in-Ok-read_lines.is ∙ read (goal.at.overflow_add-result c).After-read_lines b.1) in
+    let b = begun (goal.at.overflow_add-result c).In_ok-at in
+    let x = cursor.cursors_ok _ _ (sym c.in_ok-c.was ∙ read (goal.at.overflow_add-result c).After-read_lines b.1) in
     let w = start_within g.text.now g.start b.0 in
     omega (arith, b.1, w, ap (λ (x : Cursor). x.at) x.cursor, place_in (drop g.start g.text.now) x.reading x.read, length-drop g.start g.text.now)
 
-pub returns-in-Ok-read_lines : goal.returns-in-Ok-read_lines
-returns-in-Ok-read_lines c =
+pub returns : goal.returns
+returns c =
     let g = c.args in
-    let b = begun (goal.at.returns-in-Ok-read_lines c).In-Ok in
-    let x = cursor.cursors_ok _ _ (sym c.in-Ok-read_lines.is ∙ read (goal.at.returns-in-Ok-read_lines c).After-read_lines b.1) in
+    let b = begun (goal.at.returns c).In_ok-at in
+    let x = cursor.cursors_ok _ _ (sym c.in_ok-c.was ∙ read (goal.at.returns c).After-read_lines b.1) in
     let t = drop g.start g.text.now in
-    let here = ap (λ (l : List ℕ). read_lines l) (part g.text.now g.start c.in-Ok.at b.1) in
+    let here = ap (λ (l : List ℕ). read_lines l) (part g.text.now g.start c.in_ok-at.at b.1) in
     let holds = c.read_lines.ensures.kept x.reading (here ∙ x.read) in
-    let place : c.in-Ok.at + c.in-Ok-read_lines.c.at ≡ g.start + x.reading.at = omega (arith, b.1, ap (λ (x : Cursor). x.at) x.cursor) in
+    let place : c.in_ok-at.at + c.in_ok-c.c.at ≡ g.start + x.reading.at = omega (arith, b.1, ap (λ (x : Cursor). x.at) x.cursor) in
     let sheet = c.sheet_by.ensures ∙ kept_sheet t c.read_lines.new.kept x.reading x.read holds (omega (arith, c.read_lines.auto.kept)) in
-    (λ i. record { answer = Read (place i); sheet = sheet i })
+    (λ i. record { answer = Ok (place i); sheet = sheet i })
     ∙ ((λ i. record { answer = answer_of g.start (sym x.read i); sheet = sheet_of (sym x.read i) }) ∙ sym (start_good g.text.now g.start b.0))
 
-pub returns-in-Err-read_lines : goal.returns-in-Err-read_lines
-returns-in-Err-read_lines c =
+pub returns-in_err-c : goal.returns-in_err-c
+returns-in_err-c c =
     let g = c.args in
-    let b = begun (goal.at.returns-in-Err-read_lines c).In-Ok in
-    let e = cursor.cursors_err _ _ (sym c.in-Err-read_lines.is ∙ read (goal.at.returns-in-Err-read_lines c).After-read_lines b.1) in
-    c.refused-in-Err-read_lines.ensures
-    ∙ ((λ i. record { answer = answer_of g.start (sym e i); sheet = sheet_of (sym e i) }) ∙ sym (start_good g.text.now g.start b.0))
+    let b = begun (goal.at.returns-in_err-c c).In_ok-at in
+    let e = cursor.cursors_err _ _ (sym c.in_err-c.was ∙ read (goal.at.returns-in_err-c c).After-read_lines b.1) in
+    let p = err_from_is_err_and c.from_residual-in_err-c.result c.from_residual-in_err-c.ensures.1 in
+    rw (p.1, p.2)
+    ((λ i. record { answer = answer_of g.start (sym e i); sheet = sheet_of (sym e i) }) ∙ sym (start_good g.text.now g.start b.0))
