@@ -6,45 +6,56 @@ use mathlib.Core.Bool.{Bool, true, false, cond}
 use mathlib.Core.List.{List}
 use Prim.Native.Nat.{ℕ, zero, suc, ◌+◌, ◌≤◌, ◌<◌}
 use native.Mathlib.Omega.{arith}
-use borrow.Author.Tests.{le-ltb, eqb-true}
-use lib.Dec.{ltb, eqb}
+use borrow.Author.Tests.{le-ltb}
+use lib.Dec.{ltb}
 use lib.ListN.{length, drop}
+use Rattle.std.specs.Prelude.{Option, Some, None, Result, Ok, Err, IfOk}
 use Rattle.text.specs.Text.{seek, before, has, value_part}
-use Rattle.values.specs.Values.{value_of}
-use Rattle.std.specs.Prelude.{Result, Ok, Err}
 use Rattle.text.specs.declared.Line.{Line}
 use Rattle.text.specs.declared.TextFault.{TextFault}
-use Rattle.record_end.specs.End.{behind_record}
+use Rattle.text.specs.declared.TextFault.TheVariants.{TextEnds}
+use Rattle.values.specs.Values.{value_of}
+use Rattle.asks.specs.declared.LineKind.{LineKind}
+use Rattle.asks.specs.declared.LineKind.TheVariants.{Take, Release, Move, Settle, Restate, Void, Total}
 use Rattle.asks.specs.declared.Asking.{Asking}
-use Rattle.asks.specs.Asks.{kind_of, row_of, not_asked, next_of, asking_by, asking_at}
-use Rattle.asks.specs.Extent.{counted, stop_at, line_number, extent_by, extent_of}
+use Rattle.asks.specs.declared.Extent.{Extent}
+use Rattle.asks.specs.Asks.{kind_of, row_of, next_of, asking_by, line_asking, asking_at}
+use Rattle.asks.specs.Extent.{counted, stop_at, extent_from, extent_by, extent_of}
 
 -- the next call begins behind the line
-next_behind : (text : List ℕ) (kind after : ℕ) → after ≤ next_of text kind after
-unfolding next_of
-next_behind text kind after = by (eqb kind 4) (eqb kind 5)
-  where
-    by : (t u : Bool) → after ≤ cond t (behind_record text after) (cond u (behind_record text after) after)
-    by true u = omega arith
-    by false true = omega arith
-    by false false = omega arith
+next_behind : (text : List ℕ) (kind : LineKind) (after : ℕ) → after ≤ next_of text kind after
+next_behind text Take after = omega arith
+next_behind text Release after = omega arith
+next_behind text Move after = omega arith
+next_behind text Settle after = omega arith
+next_behind text Restate after = omega arith
+next_behind text Void after = omega arith
+next_behind text Total after = omega arith
 
-asked_behind : (text : List ℕ) (at : ℕ) → (asking_at text at).refusal ≡ 0 → at < (asking_at text at).next
+value_behind : (text : List ℕ) (at lf : ℕ) (kind : LineKind) (r : Result Line TextFault) → at ≤ lf → IfOk (asking_by text kind lf r) (λ a. at < a.next)
+value_behind text at lf kind (Ok l) h = omega (arith, next_behind text kind (lf + 1))
+value_behind text at lf kind (Err f) h = tt
+
+line_behind : (text line : List ℕ) (at lf : ℕ) (kind : Option LineKind) → at ≤ lf → IfOk (line_asking text line lf kind) (λ a. at < a.next)
+line_behind text line at lf (Some kind) h = value_behind text at lf kind (value_of (row_of kind) (value_part line)) h
+line_behind text line at lf None h = tt
+
+asked_behind : (text : List ℕ) (at : ℕ) → IfOk (asking_at text at) (λ a. at < a.next)
 unfolding asking_at
-asked_behind text at = by (has 10 (drop at text)) (eqb (kind_of line) 0) (value_of (row_of (kind_of line)) (value_part line))
+asked_behind text at = by (has 10 (drop at text))
   where
-    line : List ℕ
-    line = before 10 (drop at text)
+    line : Result Asking TextFault
+    line = line_asking text (before 10 (drop at text)) (at + seek 10 10 (drop at text)) (kind_of (before 10 (drop at text)))
 
-    asked : (ended unknown : Bool) → Result Line TextFault → Asking
-    asked ended unknown read =
-        cond ended (cond unknown (not_asked 1 at) (asking_by text (kind_of line) at (at + seek 10 10 (drop at text)) read)) (not_asked 4 at)
+    by : (ended : Bool) → IfOk (cond ended line (Err TextEnds)) (λ a. at < a.next)
+    by true = line_behind text (before 10 (drop at text)) at (at + seek 10 10 (drop at text)) (kind_of (before 10 (drop at text))) (omega arith)
+    by false = tt
 
-    by : (ended unknown : Bool) (read : Result Line TextFault) → (asked ended unknown read).refusal ≡ 0 → at < (asked ended unknown read).next
-    by false unknown read e = omega arith
-    by true true read e = omega arith
-    by true false (Err f) e = omega arith
-    by true false (Ok l) e = omega (arith, next_behind text (kind_of line) (at + seek 10 10 (drop at text) + 1))
+-- two ways on that agree on what comes behind a line agree on the line
+same_line : (further other : ℕ → Extent) (text : List ℕ) (at : ℕ) (r : Result Asking TextFault) → IfOk r (λ a. at < a.next)
+    → ((next : ℕ) → at < next → further next ≡ other next) → extent_from further text at r ≡ extent_from other text at r
+same_line further other text at (Ok a) on same = ap (counted 1) (same a.next on)
+same_line further other text at (Err f) on same = refl
 
 -- any two counts that last give the same
 enough : (n m : ℕ) (text : List ℕ) (at : ℕ) → length text ≤ at + n → length text ≤ at + m → extent_by n text at ≡ extent_by m text at
@@ -53,21 +64,11 @@ enough zero zero text at p q = refl
 enough zero (suc m) text at p q = let past : length text ≤ at = omega arith in sym (simp (le-ltb _ _ past))
 enough (suc n) zero text at p q = let past : length text ≤ at = omega arith in simp (le-ltb _ _ past)
 enough (suc n) (suc m) text at p q =
-    by (ltb at (length text)) (eqb (asking_at text at).refusal 0) refl
-    (λ (on : at < (asking_at text at).next). enough n m text (asking_at text at).next (omega arith) (omega arith))
-  where
-    by : (t u : Bool) → eqb (asking_at text at).refusal 0 ≡ u
-        → (at < (asking_at text at).next → extent_by n text (asking_at text at).next ≡ extent_by m text (asking_at text at).next)
-        → cond t (cond u (counted 1 (extent_by n text (asking_at text at).next)) (stop_at (asking_at text at).refusal (line_number text at))) (stop_at 0 0)
-        ≡ cond t (cond u (counted 1 (extent_by m text (asking_at text at).next)) (stop_at (asking_at text at).refusal (line_number text at))) (stop_at 0 0)
-    by false u e same = refl
-    by true false e same = refl
-    by true true e same = ap (counted 1) (same (asked_behind text at (eqb-true _ _ e)))
+    ap (λ (e : Extent). cond (ltb at (length text)) e (stop_at None))
+    (same_line (extent_by n text) (extent_by m text) text at (asking_at text at) (asked_behind text at)
+    (λ (next : ℕ) (on : at < next). enough n m text next (omega arith) (omega arith)))
 
 pub extent_is : (text : List ℕ) (at : ℕ)
-    → extent_of text at
-    ≡ cond (ltb at (length text))
-    (cond (eqb (asking_at text at).refusal 0) (counted 1 (extent_of text (asking_at text at).next)) (stop_at (asking_at text at).refusal (line_number text at)))
-    (stop_at 0 0)
+    → extent_of text at ≡ cond (ltb at (length text)) (extent_from (extent_of text) text at (asking_at text at)) (stop_at None)
 unfolding extent_by
 extent_is text at = enough (length text) (suc (length text)) text at (omega arith) (omega arith)

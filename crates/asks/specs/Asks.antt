@@ -1,32 +1,49 @@
 -- The lines of a list of calls behind a day sheet, as `replay` reads them: `take=hour:unit:kWh`, `release=hour:unit:kWh`, `move=hour:from:to:kWh`,
 -- `void=hour`, `total=unit:item`, and `settle=` or `restate=` with nothing after the `=` and an hour record from the next byte on.
 -- 10 is LF; 01's refusals 4, 1 and 2 are those of a line that is no call.
-use Rattle.std.specs.Prelude.{ℕ, ◌+◌, cond, List, eqb, length, drop, get_or, false, Result, Ok, Err}
+use Rattle.std.specs.Prelude.{ℕ, ◌+◌, cond, List, [], ◌∷◌, length, drop, get_or, false, Option, Some, None, Result, Ok, Err}
+use Rattle.std.specs.List.{find}
 use Rattle.text.specs.declared.Row.{Row}
 use Rattle.text.specs.Text.{seek, before, has, value_part, key_is}
 use Rattle.text.specs.Rows.{word, limits}
 use Rattle.values.specs.Values.{value_of}
 use Rattle.text.specs.declared.Line.{Line}
 use Rattle.text.specs.declared.TextFault.{TextFault}
+use Rattle.text.specs.declared.TextFault.TheVariants.{NotDue, BadValue, TextEnds}
 use Rattle.ledger.specs.declared.Asked.{Asked}
 use Rattle.record_end.specs.End.{behind_record}
+use Rattle.asks.specs.declared.LineKind.{LineKind}
+use Rattle.asks.specs.declared.LineKind.TheVariants.{Take, Release, Move, Settle, Restate, Void, Total}
+use Rattle.asks.specs.declared.Asks.{Asks}
+use Rattle.asks.specs.declared.Asks.TheVariants.{Call, Total as TotalOf}
 use Rattle.asks.specs.declared.Asking.{Asking}
 
--- the kind of a call by its key; 0 for another key or no `=`
-unfoldable pub kind_of : List ℕ → ℕ
-kind_of line =
-    cond (key_is line (word "take")) 1
-    (cond (key_is line (word "release")) 2
-    (cond (key_is line (word "move")) 3
-    (cond (key_is line (word "settle")) 4
-    (cond (key_is line (word "restate")) 5
-    (cond (key_is line (word "void")) 6
-    (cond (key_is line (word "total")) 7 0))))))
+-- the key of a kind of line
+abbrev pub key_of : LineKind → List ℕ
+key_of Take = word "take"
+key_of Release = word "release"
+key_of Move = word "move"
+key_of Settle = word "settle"
+key_of Restate = word "restate"
+key_of Void = word "void"
+key_of Total = word "total"
+
+abbrev pub kinds : List LineKind
+kinds = Take ∷ Release ∷ Move ∷ Settle ∷ Restate ∷ Void ∷ Total ∷ []
+
+-- the kind of a line by its key; none for another key or no `=`
+unfoldable pub kind_of : List ℕ → Option LineKind
+kind_of line = find (λ kind. key_is line (key_of kind)) kinds
 
 -- how many numbers the value of a call's line has
-unfoldable pub numbers_of : ℕ → ℕ
-numbers_of kind =
-    cond (eqb kind 1) 3 (cond (eqb kind 2) 3 (cond (eqb kind 3) 4 (cond (eqb kind 6) 1 (cond (eqb kind 7) 2 0))))
+abbrev pub numbers_of : LineKind → ℕ
+numbers_of Take = 3
+numbers_of Release = 3
+numbers_of Move = 4
+numbers_of Settle = 0
+numbers_of Restate = 0
+numbers_of Void = 1
+numbers_of Total = 2
 
 -- the value of a call's line: numbers "of 1 to 9 digits, no leading zero" joined by ':', or nothing
 abbrev pub row_with : ℕ → Row
@@ -42,67 +59,60 @@ row_with n =
       high = limits 999999999 999999999 999999999 999999999;
     }
 
-abbrev pub row_of : ℕ → Row
+abbrev pub row_of : LineKind → Row
 row_of kind = row_with (numbers_of kind)
 
--- a call that is refused under every sheet and book: a take in hour 0
-abbrev pub no_asked : Asked
-no_asked = record { kind = 1; hour = 0; unit = 0; to = 0; kwh = 0; begin = 0; end = 0; start = 0 }
-
--- a line that is no call, at a place
-abbrev pub not_asked : ℕ → ℕ → Asking
-not_asked refusal at = record { call = no_asked; unit = 0; item = 0; kind = 0; refusal = refusal; next = at }
-
--- the kWh of a call is its last number
-abbrev pub kwh_of : (kind : ℕ) → List ℕ → ℕ
-kwh_of kind number = cond (eqb kind 3) (get_or number 3 0) (get_or number 2 0)
-
--- the call of a line by the numbers of its value; a record starts behind the line
-abbrev pub asked_of : (kind : ℕ) → List ℕ → (start size : ℕ) → Asked
-asked_of kind number start size =
-    cond (eqb kind 7) no_asked
-    (record {
+-- a call of a line by the numbers of its value; a record starts behind the line
+abbrev pub asked_of : (kind : ℕ) → List ℕ → (kwh start size : ℕ) → Asked
+asked_of kind number kwh start size =
+    record {
       kind = kind;
       hour = get_or number 0 0;
       unit = get_or number 1 0;
       to = get_or number 2 0;
-      kwh = kwh_of kind number;
+      kwh = kwh;
       begin = 0;
       end = size;
       start = start;
-    })
-
--- a total's unit and item; 0 for another call
-abbrev pub total_of : (kind : ℕ) → List ℕ → ℕ → ℕ
-total_of kind number i = cond (eqb kind 7) (get_or number i 0) 0
-
--- where the next call's line begins: behind the line, and behind the record of a settle or a restate
-unfoldable pub next_of : List ℕ → (kind after : ℕ) → ℕ
-next_of text kind after = cond (eqb kind 4) (behind_record text after) (cond (eqb kind 5) (behind_record text after) after)
-
--- what a line of a kind asks, whose LF stands at a place
-abbrev pub asking_of : List ℕ → (kind : ℕ) → List ℕ → (lf : ℕ) → Asking
-asking_of text kind number lf =
-    record {
-      call = asked_of kind number (lf + 1) (length text);
-      unit = total_of kind number 0;
-      item = total_of kind number 1;
-      kind = kind;
-      refusal = 0;
-      next = next_of text kind (lf + 1);
     }
 
+-- what a line asks for: a call, whose kWh is its last number, or the total of a unit and an item
+abbrev pub asks_of : LineKind → List ℕ → (start size : ℕ) → Asks
+asks_of Take number start size = Call (asked_of 1 number (get_or number 2 0) start size)
+asks_of Release number start size = Call (asked_of 2 number (get_or number 2 0) start size)
+asks_of Move number start size = Call (asked_of 3 number (get_or number 3 0) start size)
+asks_of Settle number start size = Call (asked_of 4 number (get_or number 2 0) start size)
+asks_of Restate number start size = Call (asked_of 5 number (get_or number 2 0) start size)
+asks_of Void number start size = Call (asked_of 6 number (get_or number 2 0) start size)
+asks_of Total number start size = TotalOf (get_or number 0 0) (get_or number 1 0)
+
+-- where the next call's line begins: behind the line, and behind the record of a settle or a restate
+abbrev pub next_of : List ℕ → LineKind → (after : ℕ) → ℕ
+next_of text Take after = after
+next_of text Release after = after
+next_of text Move after = after
+next_of text Settle after = behind_record text after
+next_of text Restate after = behind_record text after
+next_of text Void after = after
+next_of text Total after = after
+
+-- what a line of a kind asks, whose LF stands at a place
+abbrev pub asking_of : List ℕ → LineKind → List ℕ → (lf : ℕ) → Asking
+asking_of text kind number lf = record { asked = asks_of kind number (lf + 1) (length text); next = next_of text kind (lf + 1) }
+
 -- what a line of a kind asks, by its value
-abbrev pub asking_by : List ℕ → (kind at lf : ℕ) → Result Line TextFault → Asking
-asking_by text kind at lf (Ok l) = asking_of text kind l.number lf
-asking_by text kind at lf (Err f) = not_asked 2 at
+abbrev pub asking_by : List ℕ → LineKind → (lf : ℕ) → Result Line TextFault → Result Asking TextFault
+asking_by text kind lf (Ok l) = Ok (asking_of text kind l.number lf)
+asking_by text kind lf (Err f) = Err BadValue
+
+-- what a line asks, by its kind
+abbrev pub line_asking : List ℕ → (line : List ℕ) → (lf : ℕ) → Option LineKind → Result Asking TextFault
+line_asking text line lf (Some kind) = asking_by text kind lf (value_of (row_of kind) (value_part line))
+line_asking text line lf None = Err NotDue
 
 -- what the line at a place asks: "4 for no LF, 1 for no `=` or another key, 2 for a malformed value"
-unfoldable pub asking_at : List ℕ → ℕ → Asking
+unfoldable pub asking_at : List ℕ → ℕ → Result Asking TextFault
 asking_at text at =
     let rest = drop at text in
     let line = before 10 rest in
-    cond (has 10 rest)
-    (cond (eqb (kind_of line) 0) (not_asked 1 at)
-    (asking_by text (kind_of line) at (at + seek 10 10 rest) (value_of (row_of (kind_of line)) (value_part line))))
-    (not_asked 4 at)
+    cond (has 10 rest) (line_asking text line (at + seek 10 10 rest) (kind_of line)) (Err TextEnds)

@@ -1,15 +1,15 @@
 -- The calls of a text: how many there are before its end or the first line that is no call, and the number of a line.
-use Rattle.std.specs.Prelude.{ℕ, zero, suc, ◌+◌, cond, List, [], ◌∷◌, ltb, eqb, length, take}
+use Rattle.std.specs.Prelude.{ℕ, zero, suc, ◌+◌, cond, List, ltb, eqb, length, take, Option, Some, None, Result, Ok, Err}
+use Rattle.std.specs.List.{count_by}
+use Rattle.text.specs.declared.TextFault.{TextFault}
+use Rattle.lines.specs.declared.TextRefusal.{TextRefusal}
+use Rattle.asks.specs.declared.Asking.{Asking}
 use Rattle.asks.specs.declared.Extent.{Extent}
 use Rattle.asks.specs.Asks.{asking_at}
 
 -- how many LF stand in a text
-abbrev pub line_end : ℕ → ℕ
-line_end x = cond (eqb x 10) 1 0
-
 unfoldable pub line_ends : List ℕ → ℕ
-line_ends [] = 0
-line_ends (x ∷ xs) = line_end x + line_ends xs
+line_ends text = count_by (λ x. eqb x 10) text
 
 -- "N counts the lines of the whole text from 1"
 abbrev pub line_number : List ℕ → ℕ → ℕ
@@ -17,19 +17,21 @@ line_number text at = line_ends (take at text) + 1
 
 -- so many calls more in front
 abbrev pub counted : ℕ → Extent → Extent
-counted n e = record { calls = n + e.calls; refusal = e.refusal; line = e.line }
+counted n e = record { calls = n + e.calls; stop = e.stop }
 
-abbrev pub stop_at : (refusal line : ℕ) → Extent
-stop_at refusal line = record { calls = 0; refusal = refusal; line = line }
+abbrev pub stop_at : Option TextRefusal → Extent
+stop_at stop = record { calls = 0; stop = stop }
+
+-- the calls from a line on: a call and those behind it, or the stop at a line that is no call
+abbrev pub extent_from : (ℕ → Extent) → List ℕ → ℕ → Result Asking TextFault → Extent
+extent_from further text at (Ok a) = counted 1 (further a.next)
+extent_from further text at (Err f) = stop_at (Some (record { fault = f; line = line_number text at }))
 
 -- the calls from a place on; each takes a byte at least, so that there are no more of them than bytes: `extent_is` (proofs/ExtentEnds.antt) says it
 -- without a count
 unfoldable pub extent_by : (left : ℕ) → List ℕ → ℕ → Extent
-extent_by zero text at = stop_at 0 0
-extent_by (suc left) text at =
-    cond (ltb at (length text))
-    (cond (eqb (asking_at text at).refusal 0) (counted 1 (extent_by left text (asking_at text at).next)) (stop_at (asking_at text at).refusal (line_number text at)))
-    (stop_at 0 0)
+extent_by zero text at = stop_at None
+extent_by (suc left) text at = cond (ltb at (length text)) (extent_from (extent_by left text) text at (asking_at text at)) (stop_at None)
 
 abbrev pub extent_of : List ℕ → ℕ → Extent
 extent_of text at = extent_by (length text) text at

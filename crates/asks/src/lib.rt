@@ -1,242 +1,197 @@
 // The lines of a list of calls, as `replay` reads them behind the sheet: what a line asks, and where the next one stands.
 #![tactic(auto)]
 
-ghost use Rattle.std.specs.Prelude.{◌≡◌, ◌+◌, ◌<◌, ◌≤◌, length};
-ghost use Rattle.asks.specs.Asks.{kind_of, numbers_of, row_of, no_asked, not_asked, kwh_of, asked_of, total_of, next_of, asking_of, asking_at};
-ghost use Rattle.asks.specs.Extent.{extent_of, line_end, line_ends};
+ghost use Rattle.std.specs.Prelude.{◌≡◌, ◌+◌, ◌<◌, ◌≤◌, length, IfOk};
+ghost use Rattle.asks.specs.Asks.{key_of, kind_of, numbers_of, row_of, asks_of, next_of, asking_of, asking_at};
+ghost use Rattle.asks.specs.Extent.{extent_of, line_ends};
 
 use ledger::Asked;
-use text::Row;
+use lines::TextRefusal;
+use text::{Row, TextFault};
 
-// What a line asks. Kinds 1 to 7 are take, release, move, settle, restate, void and total; a line of kind 0 is no call, and `refusal`
-// says why: 4 no LF, 1 no `=` or another key, 2 a malformed value. The call of a total is one that is always refused; the unit and the
-// item of another call are 0. The next call's line begins at `next`.
+// What a line asks for: a call, or the total of a unit and an item.
+#[derive(Clone, Copy)]
+pub enum Asks {
+    Call(Asked),
+    Total { unit: u64, item: u64 },
+}
+
+// What a line asks for, and where the next call's line begins.
 #[derive(Clone, Copy)]
 pub struct Asking {
-    pub call: Asked,
-    pub unit: u64,
-    pub item: u64,
-    pub kind: u64,
-    pub refusal: u64,
+    pub asked: Asks,
     pub next: usize,
 }
 
-// The calls of a text: how many there are before its end or before the first line that is no call; of that line the refusal, 0 where
-// there is none, and its number, counted from 1 in the whole text.
+// The calls of a text: how many there are before its end or before the first line that is no call; of that line, where there is one, why
+// it is none, and its number, counted from 1 in the whole text.
 #[derive(Clone, Copy)]
 pub struct Extent {
     pub calls: usize,
-    pub refusal: u64,
-    pub line: u64,
+    pub stop: Option<TextRefusal>,
 }
 
-fn kind_of(line: &[u8]) -> u64
+// What a line of a list of calls may be, by its key.
+#[derive(Clone, Copy)]
+enum LineKind {
+    Take,
+    Release,
+    Move,
+    Settle,
+    Restate,
+    Void,
+    Total,
+}
+
+impl LineKind {
+    fn key(self) -> [u8; 10]
+        ensures { result ≡ key_of self }
+    {
+        match self {
+            LineKind::Take => *b"take======",
+            LineKind::Release => *b"release===",
+            LineKind::Move => *b"move======",
+            LineKind::Settle => *b"settle====",
+            LineKind::Restate => *b"restate===",
+            LineKind::Void => *b"void======",
+            LineKind::Total => *b"total=====",
+        }
+    }
+
+    // How many numbers the line gives.
+    fn numbers(self) -> u8
+        ensures { result ≡ numbers_of self }
+    {
+        match self {
+            LineKind::Take => 3,
+            LineKind::Release => 3,
+            LineKind::Move => 4,
+            LineKind::Settle => 0,
+            LineKind::Restate => 0,
+            LineKind::Void => 1,
+            LineKind::Total => 2,
+        }
+    }
+
+    // The value of the line: numbers of at most 9 digits joined by ':', or nothing.
+    fn row(self) -> Row
+        ensures { result ≡ row_of self }
+    {
+        let most = self.numbers();
+        Row {
+            key: *b"==========",
+            word: *b"==========",
+            blank: false,
+            order: false,
+            parts: most as usize,
+            most,
+            low: [0, 0, 0, 0],
+            high: [999999999, 999999999, 999999999, 999999999],
+        }
+    }
+
+    // What the line asks for, by its numbers. A record begins at `start`, behind its line, and lies in the whole text.
+    fn asks(self, number: [u64; 24], start: usize, size: usize) -> Asks
+        ensures { result ≡ asks_of self number start size }
+    {
+        let asked = Asked {
+            kind: 0,
+            hour: number[0],
+            unit: number[1],
+            to: number[2],
+            kwh: number[2],
+            begin: 0,
+            end: size as u64,
+            start: start as u64,
+        };
+        match self {
+            LineKind::Take => Asks::Call(Asked { kind: 1, ..asked }),
+            LineKind::Release => Asks::Call(Asked { kind: 2, ..asked }),
+            LineKind::Move => Asks::Call(Asked {
+                kind: 3,
+                kwh: number[3],
+                ..asked
+            }),
+            LineKind::Settle => Asks::Call(Asked { kind: 4, ..asked }),
+            LineKind::Restate => Asks::Call(Asked { kind: 5, ..asked }),
+            LineKind::Void => Asks::Call(Asked { kind: 6, ..asked }),
+            LineKind::Total => Asks::Total {
+                unit: number[0],
+                item: number[1],
+            },
+        }
+    }
+
+    // Where the next call's line begins, behind this line or its record.
+    fn next(self, text: &[u8], after: usize) -> usize
+        ensures value { result ≡ next_of text.now self after }
+        ensures lower_bound { after ≤ result }
+    {
+        match self {
+            LineKind::Settle | LineKind::Restate => record_end::behind_record(text, after),
+            _ => after,
+        }
+    }
+}
+
+// The kind of a line by its key.
+#[tactic(auto, unfolding(crate::specs::Asks::kind_of))]
+fn kind_of(line: &[u8]) -> Option<LineKind>
     ensures { result ≡ kind_of line.now }
 {
-    if text::key_is(line, *b"take======") {
-        return 1;
-    }
-    if text::key_is(line, *b"release===") {
-        return 2;
-    }
-    if text::key_is(line, *b"move======") {
-        return 3;
-    }
-    if text::key_is(line, *b"settle====") {
-        return 4;
-    }
-    if text::key_is(line, *b"restate===") {
-        return 5;
-    }
-    if text::key_is(line, *b"void======") {
-        return 6;
-    }
-    if text::key_is(line, *b"total=====") {
-        return 7;
-    }
-    0
-}
-
-// How many numbers a call's line gives.
-fn numbers_of(kind: u64) -> u8
-    ensures { result ≡ numbers_of kind }
-{
-    if kind == 1 {
-        return 3;
-    }
-    if kind == 2 {
-        return 3;
-    }
-    if kind == 3 {
-        return 4;
-    }
-    if kind == 6 {
-        return 1;
-    }
-    if kind == 7 {
-        return 2;
-    }
-    0
-}
-
-// The value of a call's line: numbers of at most 9 digits joined by ':', or nothing.
-fn row_of(kind: u64) -> Row
-    ensures { result ≡ row_of kind }
-{
-    let most = numbers_of(kind);
-    Row {
-        key: *b"==========",
-        word: *b"==========",
-        blank: false,
-        order: false,
-        parts: most as usize,
-        most: most,
-        low: [0, 0, 0, 0],
-        high: [999999999, 999999999, 999999999, 999999999],
-    }
-}
-
-// A call that is always refused: a take in hour 0.
-pub fn no_asked() -> Asked
-    ensures { result ≡ no_asked }
-{
-    Asked {
-        kind: 1,
-        hour: 0,
-        unit: 0,
-        to: 0,
-        kwh: 0,
-        begin: 0,
-        end: 0,
-        start: 0,
-    }
-}
-
-// A line that asks nothing, with its refusal.
-fn nothing_asked(refusal: u64, at: usize) -> Asking
-    ensures { result ≡ not_asked refusal at }
-{
-    Asking {
-        call: no_asked(),
-        unit: 0,
-        item: 0,
-        kind: 0,
-        refusal: refusal,
-        next: at,
-    }
-}
-
-// The kWh of a call: its last number.
-fn kwh_of(kind: u64, number: [u64; 24]) -> u64
-    ensures { result ≡ kwh_of kind number }
-{
-    if kind == 3 {
-        return number[3];
-    }
-    number[2]
-}
-
-// The call of a line. A record begins at `start`, behind its line, and lies in the whole text.
-fn asked_of(kind: u64, number: [u64; 24], start: usize, size: usize) -> Asked
-    ensures { result ≡ asked_of kind number start size }
-{
-    if kind == 7 {
-        return no_asked();
-    }
-    Asked {
-        kind: kind,
-        hour: number[0],
-        unit: number[1],
-        to: number[2],
-        kwh: kwh_of(kind, number),
-        begin: 0,
-        end: size as u64,
-        start: start as u64,
-    }
-}
-
-// Number i of a total's line, 0 for another call.
-fn total_of(kind: u64, number: [u64; 24], i: usize) -> u64
-    requires { i < 24 }
-    ensures { result ≡ total_of kind number i }
-{
-    if kind == 7 {
-        return number[i];
-    }
-    0
-}
-
-fn next_of(text: &[u8], kind: u64, after: usize) -> usize
-    ensures value { result ≡ next_of text.now kind after }
-    ensures lower_bound { after ≤ result }
-{
-    if kind == 4 {
-        return record_end::behind_record(text, after);
-    }
-    if kind == 5 {
-        return record_end::behind_record(text, after);
-    }
-    after
+    let kinds = [
+        LineKind::Take,
+        LineKind::Release,
+        LineKind::Move,
+        LineKind::Settle,
+        LineKind::Restate,
+        LineKind::Void,
+        LineKind::Total,
+    ];
+    kinds
+        .iter()
+        .copied()
+        .find(|kind| text::key_is(line, kind.key()))
 }
 
 // What the line of a kind asks whose value has these numbers.
-fn asking_of(text: &[u8], kind: u64, number: [u64; 24], e: usize) -> Asking
+fn asking_of(text: &[u8], kind: LineKind, number: [u64; 24], e: usize) -> Asking
     requires { e < length text.now }
     ensures value { result ≡ asking_of text.now kind number e }
     ensures e_lt_next { e < result.next }
 {
     Asking {
-        call: asked_of(kind, number, e + 1, text.len()),
-        unit: total_of(kind, number, 0),
-        item: total_of(kind, number, 1),
-        kind: kind,
-        refusal: 0,
-        next: next_of(text, kind, e + 1),
+        asked: kind.asks(number, e + 1, text.len()),
+        next: kind.next(text, e + 1),
     }
 }
 
 // What the line at a place of the text asks.
-pub fn ask(text: &[u8], at: usize) -> Asking
+pub fn ask(text: &[u8], at: usize) -> Result<Asking, TextFault>
     ensures value { result ≡ asking_at text.now at }
-    ensures at_lt_next { result.refusal ≡ 0 → at < result.next }
+    ensures at_lt_next { IfOk result (λ a. at < a.next) }
 {
     let e = text::find(text, at, b'\n');
     if text.len() <= e {
-        return nothing_asked(4, at);
+        return Err(TextFault::TextEnds);
     }
     let line = &text[at..e];
-    let kind = kind_of(line);
-    if kind == 0 {
-        return nothing_asked(1, at);
+    let Some(kind) = kind_of(line) else {
+        return Err(TextFault::NotDue);
+    };
+    match values::read_value(text::value_of(line), kind.row()) {
+        Ok(read) => Ok(asking_of(text, kind, read.number, e)),
+        Err(_) => Err(TextFault::BadValue),
     }
-    match values::read_value(text::value_of(line), row_of(kind)) {
-        Ok(read) => asking_of(text, kind, read.number, e),
-        Err(_) => nothing_asked(2, at),
-    }
-}
-
-fn is_line_end(x: u8) -> u64
-    ensures value { result ≡ line_end x }
-    ensures upper_bound { result ≤ 1 }
-{
-    if x == b'\n' {
-        return 1;
-    }
-    0
 }
 
 // How many line ends stand in a part of a text.
-fn line_ends(part: &[u8]) -> u64
+#[tactic(auto, unfolding(crate::specs::Extent::line_ends))]
+fn line_ends(part: &[u8]) -> usize
     ensures value { result ≡ line_ends part.now }
     ensures upper_bound { result ≤ length part.now }
 {
-    let mut n: u64 = 0;
-    let mut i: usize = 0;
-    while i < part.len() {
-        n += is_line_end(part[i]);
-        i += 1;
-    }
-    n
+    part.iter().filter(|x| **x == b'\n').count()
 }
 
 // The calls of the text from a place on.
@@ -246,21 +201,21 @@ pub fn calls_from(text: &[u8], from: usize) -> Extent
 {
     let mut at = from;
     let mut calls: usize = 0;
+    // Each line says where the next one begins, so the place is not an index that `for` could count.
     while at < text.len() {
-        let a = ask(text, at);
-        if a.refusal != 0 {
-            return Extent {
-                calls: calls,
-                refusal: a.refusal,
-                line: line_ends(&text[..at]) + 1,
-            };
+        match ask(text, at) {
+            Ok(asking) => {
+                at = asking.next;
+                calls += 1;
+            }
+            Err(fault) => {
+                let line = line_ends(&text[..at]) as u64 + 1;
+                return Extent {
+                    calls,
+                    stop: Some(TextRefusal { fault, line }),
+                };
+            }
         }
-        at = a.next;
-        calls += 1;
     }
-    Extent {
-        calls: calls,
-        refusal: 0,
-        line: 0,
-    }
+    Extent { calls, stop: None }
 }

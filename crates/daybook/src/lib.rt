@@ -7,10 +7,11 @@ ghost use Rattle.listing.specs.Listing.{joined};
 ghost use Rattle.decimal.specs.Output.{output, written};
 ghost use Rattle.decimal.specs.Writer.{Wrote};
 ghost use Rattle.asks.specs.Extent.{extent_of};
-ghost use Rattle.daybook.specs.Replay.{course, stepped, step_line, steps, nth_line, begun, own_list, listed_total, last_tables, ending, call_lines, replayed};
+ghost use Rattle.daybook.specs.Replay.{course, left_by, printed_by, stepped, step_line, steps, nth_line, begun, own_list, listed_total, last_tables, ending, call_lines, replayed};
 
-use asks::Extent;
+use asks::{Asking, Asks};
 use decimal::Writer;
+use lines::TextRefusal;
 use postings::Posting;
 use sheet::Sheet;
 use state::Book;
@@ -23,34 +24,48 @@ pub struct Stand {
     pub at: usize,
 }
 
-// The call or the total of the next line is carried out and printed; a total changes nothing.
+// The call or the total of a line is carried out and printed; the next line begins at `next`. A total changes nothing.
+fn carry_out(
+    out: &mut Writer,
+    list: &mut [Posting],
+    sheet: Sheet,
+    text: &[u8],
+    stand: Stand,
+    asking: Asking,
+) -> Stand
+    ensures left { course list.new result ≡ left_by sheet text.now (course list.old stand) asking }
+    ensures printed { Wrote out.old out.new (printed_by sheet text.now (course list.old stand) asking.asked) }
+{
+    match asking.asked {
+        Asks::Call(asked) => {
+            let o = journal::call(list, stand.count, sheet, stand.book, text, asked);
+            entries::put_call(out, text, stand.at, o.answer);
+            Stand {
+                count: o.count,
+                book: o.book,
+                at: asking.next,
+            }
+        }
+        Asks::Total { unit, item } => {
+            let t = journal::total(list, stand.count, sheet, stand.book, unit, item);
+            entries::put_total(out, text, stand.at, t);
+            Stand {
+                at: asking.next,
+                ..stand
+            }
+        }
+    }
+}
+
+// The next line is carried out and printed; one that is no call leaves all as it stands.
+#[tactic(auto, using(decimal::proofs::Laws::written_none), unfolding(crate::specs::Replay::stepped, crate::specs::Replay::step_line))]
 fn turn(out: &mut Writer, list: &mut [Posting], sheet: Sheet, text: &[u8], stand: Stand) -> Stand
     ensures left { course list.new result ≡ stepped sheet text.now (course list.old stand) }
     ensures printed { Wrote out.old out.new (step_line sheet text.now (course list.old stand)) }
 {
-    let asking = asks::ask(text, stand.at);
-    if asking.kind == 7 {
-        let t = journal::total(
-            list,
-            stand.count,
-            sheet,
-            stand.book,
-            asking.unit,
-            asking.item,
-        );
-        entries::put_total(out, text, stand.at, t);
-        return Stand {
-            count: stand.count,
-            book: stand.book,
-            at: asking.next,
-        };
-    }
-    let o = journal::call(list, stand.count, sheet, stand.book, text, asking.call);
-    entries::put_call(out, text, stand.at, o.answer);
-    Stand {
-        count: o.count,
-        book: o.book,
-        at: asking.next,
+    match asks::ask(text, stand.at) {
+        Ok(asking) => carry_out(out, list, sheet, text, stand, asking),
+        Err(_) => stand,
     }
 }
 
@@ -98,13 +113,18 @@ fn put_last_tables(out: &mut Writer, list: &mut [Posting], sheet: Sheet, stand: 
 
 // What stands behind the calls: the tables, or the line that is no call.
 #[tactic(auto, unfolding(crate::specs::Replay::ending))]
-fn put_ending(out: &mut Writer, list: &mut [Posting], sheet: Sheet, stand: Stand, extent: Extent)
-    ensures { Wrote out.old out.new (ending sheet (course list.old stand) extent) }
+fn put_ending(
+    out: &mut Writer,
+    list: &mut [Posting],
+    sheet: Sheet,
+    stand: Stand,
+    stop: Option<TextRefusal>,
+)
+    ensures { Wrote out.old out.new (ending sheet (course list.old stand) stop) }
 {
-    if extent.refusal == 0 {
-        put_last_tables(out, list, sheet, stand);
-    } else {
-        entries::put_stop(out, extent.line, extent.refusal);
+    match stop {
+        None => put_last_tables(out, list, sheet, stand),
+        Some(refusal) => entries::put_stop(out, refusal),
     }
 }
 
@@ -115,7 +135,7 @@ fn put_calls(out: &mut Writer, list: &mut [Posting], sheet: Sheet, text: &[u8], 
 {
     let extent = asks::calls_from(text, start.at);
     let stand = run(out, list, sheet, text, extent.calls, start);
-    put_ending(out, list, sheet, stand, extent);
+    put_ending(out, list, sheet, stand, extent.stop);
 }
 
 // The calls behind the sheet, on the empty book, over a list of 2,000 places of its own.
@@ -138,6 +158,7 @@ fn put_day(out: &mut Writer, sheet: Sheet, text: &[u8], from: usize)
 }
 
 // What `replay` prints for a text.
+#[tactic(auto, unfolding(crate::specs::Replay::replayed))]
 fn put_replay(out: &mut Writer, text: &[u8])
     ensures { Wrote out.old out.new (replayed text.now) }
 {
