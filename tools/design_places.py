@@ -29,6 +29,7 @@ LISTS = """
 1 gives 0 for none: decisions::{hour_index,entry_index,start_of} single::first_at
 no 1 all fields go with any answer: ledger::{Outcome,Decision} single::CallDecision
 no 1 the example's number: examples::energy_example
+no 1 a number that is no code, and a sum: text::Part energy::Energy.of apportion::Division
 2 of numbers, words and spans: energy::lesser_of {charge,decisions,postings}::least; energy::NetKwh.weight energy::HubGrains.cost; text::{key_is,word_is}; \
 examples::{two_spans,three_spans}
 2 one value of each unit: sheet::monthly_of terms::{own_of,nominal_of} settlement::real_of; state::{commitment_at,energy_at,amounts_at}
@@ -145,10 +146,9 @@ def marks(item, outcomes, lists):
     bytes_out = '&mut [u8]' in kinds.values()
     numbers = {name for name, kind in kinds.items() if kind == 'usize'}
     order = re.fullmatch('equals|exceeds|lesser|greater|lesser_of|greater_of|least', short)
-    default = is_fn and not kinds and re.fullmatch(r'(no|empty)_\w+|\w+_none|start|own_list', short)
     prints = bytes_out and ('at' in numbers or short.startswith('put_'))
-    if order or default or prints or item.name in lists[4]:
-        yield 4, item, 'equality or order' if order else 'a Default' if default else 'printing' if prints else lists[4][item.name]
+    if order or prints or item.name in lists[4]:
+        yield 4, item, 'equality or order' if order else 'printing' if prints else lists[4][item.name]
     slices = {name for name, kind in kinds.items() if re.match(r'&(mut )?\[(?!u8)', kind)}
     sizes = re.findall(r'\[(?!u8;)[^;\]]+; (\w+)\]', ' '.join(kinds.values()))
     inside = 'cells' in slices or slices and numbers & PLACES or bytes_out and 'at' in numbers or 'count' in kinds and '[Posting' in kinds.get('list', '')
@@ -158,6 +158,11 @@ def marks(item, outcomes, lists):
     tests = re.findall(r'if (\w+) == \d+ \{|(key_is)\(', item.body)
     if item.name in lists[7] or len(tests) > len(set(tests)) or re.search(r'if kind == [1-9]|match kind\b', item.body):
         yield 7, item, lists[7].get(item.name, 'chooses by a number or a key')
+
+
+def is_chain(item):
+    """Whether a function is one chain of std's, which is the generic function at its type."""
+    return item.form == 'fn' and ';' not in item.body and re.search(r'\.(all|map|sum)\(|from_fn\(', item.body)
 
 
 def twins(everything):
@@ -171,7 +176,7 @@ def twins(everything):
         joined = [other for other in groups if other & group]
         groups = [other for other in groups if not other & group] + [group.union(*joined)]
     for group in groups:
-        first, *others = sorted(group) or [None]
+        first, *others = sorted(item for item in group if not is_chain(item)) or [None]
         yield from ((2, item, 'twin of ' + first.name) for item in others)
 
 

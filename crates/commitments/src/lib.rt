@@ -10,7 +10,8 @@ use decisions::CommitmentChange;
 use energy::{Energy, HubKwh};
 use ledger::{Effect, Refusal};
 
-// A take, release or move: it is tested, and where it is accepted what is given goes off one commitment and what comes is added to the other.
+// A take, release or move: it is tested, and where it is accepted what is given goes off one commitment and what comes is added to the other. Marks are the
+// book's numbers, 0 or 1, as C has them.
 pub fn change(
     commitment: &mut [u64],
     mark: &[u64],

@@ -201,7 +201,8 @@ fn units_unknown(units: u64, from: u64, to: u64) -> bool
     !units::has_unit(units, from) || !units::has_unit(units, to)
 }
 
-// Where an hour stands in the book, 0 for one that is none.
+// Where an hour stands in the book. For one that is none it is 0 and no `None`: the call is refused by its hour whatever is read there, and the test of the
+// hour stands once, in its place among the refusals.
 #[tactic(auto, using(ledger::proofs::Passed::hour_in), unfolding(crate::specs::Changes::hour_index))]
 pub fn hour_index(hour: u64) -> usize
     ensures value { result ≡ hour_index hour }
@@ -213,7 +214,7 @@ pub fn hour_index(hour: u64) -> usize
     (hour - 1) as usize
 }
 
-// Where a unit stands in an hour of the book, 0 for one that is none.
+// Where a unit stands in an hour of the book; 0 for one that is none, as above.
 #[tactic(auto, using(ledger::proofs::Passed::hour_in, ledger::proofs::Passed::unit_in), unfolding(crate::specs::Changes::entry_index))]
 pub fn entry_index(hour: u64, unit: u64) -> usize
     ensures value { result ≡ entry_index hour unit }

@@ -15,6 +15,7 @@ pub fn read_full<R: Read>(from: &mut R, buffer: &mut [u8]) -> (usize, Option<io:
     ensures all { result.1 ≡ None → result.0 < length buffer.new → IsAtEnd (R.remaining from.new) }
 {
     let mut done = 0;
+    // a read puts as many bytes as it can, so that no `for` counts them
     while done < buffer.len() {
         match from.read(&mut buffer[done..]) {
             Ok(0) => return (done, None),
