@@ -1,3 +1,4 @@
 pub mod Within
 pub mod Steps
 pub mod Carried
+pub mod Untouched

@@ -22,8 +22,8 @@ fn store<T: Copy>(out: &mut [T], at: usize, x: T)
     }
 }
 
-// The 192 commitments, from the first place on. Commitments, marks and energies are a loop of one line each: a common one would need a function for the number
-// of each type.
+// The 192 commitments, from the first place on. Commitments, marks and energies are a loop of one line each: a common one by `Energy::amount` would
+// serve two of the three, and promise less than the whole list.
 fn put_commitments(out: &mut [u64], book: &Book)
     ensures { out.new ≡ commitment_numbers book.now out.old }
 {

@@ -17,7 +17,8 @@ pub struct AvailabilityRate {
     ghost in_range: { (cpf ≤ 10000) × (bar ≤ 1000000) },
 }
 
-// A unit's deviation by kind, from kind 2 on, in net kWh at the gate. Kinds are numbers here as in a record's spans.
+// A unit's deviation by kind, from kind 2 on, in net kWh at the gate. Kinds are numbers as in a record's spans: a record may hold any, and an enum would ask more
+// of those who make one.
 #[derive(Clone, Copy)]
 pub struct Deviations {
     pub kwh: [NetKwh; KINDS],

@@ -116,7 +116,8 @@ pub fn amount_numbers(amounts: [Amounts; 192]) -> [i64; AMOUNTS]
     array::from_fn(|n| amounts[n / 5].item[n % 5])
 }
 
-// The lists of a book, of their numbers: two functions of one line, since a generic one would need a type's constructor as an argument.
+// The lists of a book, of their numbers: two functions of one line. A generic one by `Energy::of` would promise each amount alone, and each caller would have
+// to show the two lists equal.
 pub fn commitments_of(commitment: &[u64]) -> [HubKwh; 192]
     requires { length commitment.now ≡ entries }
     ensures { result ≡ commitments_of commitment.now }

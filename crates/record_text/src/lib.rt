@@ -24,8 +24,8 @@ fn record_by(kept: &[Line; 84], units: u64, monthly: [GrossKwh; 8]) -> Record
 {
     Record {
         hour: kept[0].number[0],
-        net: NetKwh(blanks::value_or(&kept[1], 0)),
-        reverse: NetKwh(blanks::value_or(&kept[2], 0)),
+        net: NetKwh(blanks::value_or(kept, 1, 0)),
+        reverse: NetKwh(blanks::value_or(kept, 2, 0)),
         unit: array::from_fn(|k| blanks::place_by(kept, units, monthly, k)),
     }
 }

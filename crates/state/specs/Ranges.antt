@@ -55,6 +55,10 @@ commitments_hold units unit commitment = every places (λ k. place_holds (member
 unfoldable pub kwh_of : List HubKwh → List ℕ
 kwh_of commitment = tabulate entries (λ j. (get_or commitment j no_kwh).0)
 
+-- the commitments of place k, as numbers
+abbrev pub kept_to : Bool → UnitSheet → List ℕ → ℕ → Bool
+kept_to member u kwh k = every hours (λ h. leb (get_or kwh (entry_of h k) 0) (limit_of member (offer_at u h)).0)
+
 abbrev pub marks_hold : List ℕ → Bool
 marks_hold mark = every hours (λ h. eqb (get_or mark h 0) open_mark || eqb (get_or mark h 0) settled_mark)
 
