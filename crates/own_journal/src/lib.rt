@@ -27,7 +27,7 @@ pub fn own_list() -> [Posting; 2000]
     [postings::no_posting(); 2000]
 }
 
-// A list of calls on any book and count.
+// A list of calls on any book and count, over a list that is given and handed back by value: what it is otherwise, `journal::run_on` says.
 pub fn run_on(
     mut list: [Posting; 2000],
     count: u64,

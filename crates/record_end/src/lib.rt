@@ -17,6 +17,7 @@ pub fn behind_record(text: &[u8], from: usize) -> usize
     ensures { result ≡ behind_record text.now from }
 {
     let mut at = from;
+    // from line to line, so that no `for` counts the place
     while at < text.len() {
         let e = text::find(text, at, b'\n');
         if text.len() <= e {

@@ -101,7 +101,7 @@ pub fn entries_of(answer: Result<Effect, Refusal>) -> usize
     }
 }
 
-// Where the first posting of a call goes: the count, or 0 where it posts none.
+// Where the first posting of a call goes: the count, or 0 where it posts none, as the definition of a decision has it.
 fn first_at(answer: Result<Effect, Refusal>, count: u64) -> usize
     ensures { result ≡ first_at answer count }
 {
