@@ -1,10 +1,8 @@
 -- A day's count of calls never runs out while one is due: at first it is over the bytes that are left of the text, and each call takes a byte at
 -- least, a take its line and an accepted settle its record. So where no call is left, none was due: the text had ended, or something was refused.
 -- Assumes nothing.
-use Rattle.std.specs.Prelude.{Ok, Err}
-use mathlib.Core.Path.{◌≡◌, refl, sym, ap, subst}
+use mathlib.Core.Path.{◌≡◌, refl, sym, subst, ◌∙◌}
 use mathlib.Core.Bool.{Bool, true, false, cond, not}
-use mathlib.Core.Logic.{⊎_elim}
 use mathlib.Core.List.{List, ◌++◌}
 use Prim.Native.Nat.{ℕ, zero, suc, ◌+◌, ◌-◌, ◌≤◌, ◌<◌}
 use native.Mathlib.Omega.{arith}
@@ -14,9 +12,10 @@ use lib.ListN.{length, drop}
 use Rattle.text.specs.Text.{before, has, value_part, key_is}
 use Rattle.text.specs.Rows.{word}
 use Rattle.values.specs.Values.{value_of}
-use Rattle.std.specs.Prelude.{Result, Ok, Err}
+use Rattle.std.specs.Prelude.{Result, Ok, Err, Some, None}
 use Rattle.text.specs.declared.Line.{Line}
 use Rattle.text.specs.declared.TextFault.{TextFault}
+use Rattle.text.specs.declared.TextFault.TheVariants.{NotDue, TextEnds}
 use Rattle.lines.specs.declared.TextRefusal.{TextRefusal}
 use Rattle.lines.specs.Lines.{place_after}
 use Rattle.sheet.specs.declared.Sheet.{Sheet}
@@ -33,29 +32,31 @@ use Rattle.ledger.specs.Calls.{Row, row, verdict, is_settled, always_rows, book_
 use Rattle.ledger.specs.Requests.{call_for, part_of}
 use Rattle.single.specs.Journal.{performed}
 use Rattle.account.specs.declared.Due.{Due}
-use Rattle.account.specs.declared.Day.{Day}
-use Rattle.day_calls.specs.declared.Next.TheVariants.{Ends, Bad, Settle}
-use Rattle.day_calls.specs.DayCalls.{take_row, take_asked, settle_asked, take_of, next_at}
-use Rattle.account.specs.Day.{none_due, due_with, due_at, day_with, answered_by, day_after, Running, performed_in, turned, ran_out, begun, day_from}
-use Rattle.account.proofs.Turned.{left_next, ran_next, ran_end}
+use Rattle.account.specs.declared.DayRefusal.{DayRefusal}
+use Rattle.day_calls.specs.declared.Next.TheVariants.{Settle}
+use Rattle.day_calls.specs.DayCalls.{take_row, take_asked, settle_asked, take_of, next_at, Coming}
+use Rattle.account.specs.Day.{Pending, due_with, due_at, answered_by, day_after, Running, performed_in, turned, ran_by, ran_to, most_calls, begun, day_from}
+use Rattle.account.proofs.Turned.{NoneDue}
 
--- nothing is due, or a call that takes at least one of the bytes that the count has left for it
-data Lasts (text : List ℕ) (x : Due) : Type 0 where
-  none : x ≡ none_due x.refusal → Lasts text x
-  take_due : (hour unit kwh : ℕ) → x.asked ≡ take_asked hour unit kwh → 0 < x.left → length text < x.after + x.left → Lasts text x
-  settle_due : (at : ℕ) → x.asked ≡ settle_asked text at → 0 < x.left → length text ≤ at + x.left → Lasts text x
+-- nothing is due, or a call that takes at least one of the bytes that the count has left behind it
+data Lasts (text : List ℕ) (left : ℕ) : Pending → Type 0 where
+  ended : Lasts text left (Ok None)
+  refused : (e : DayRefusal) → Lasts text left (Err e)
+  take_due : (x : Due) (hour unit kwh : ℕ) → x.asked ≡ take_asked hour unit kwh → 0 < left → length text < x.after + left → Lasts text left (Ok (Some x))
+  settle_due : (x : Due) (at : ℕ) → x.asked ≡ settle_asked text at → 0 < left → length text ≤ at + left → Lasts text left (Ok (Some x))
 
-take_lasts : (text : List ℕ) (at left after : ℕ) (r : Result Line TextFault) → 0 < left - 1 → length text < after + (left - 1)
-    → Lasts text (due_with at left (take_of r after))
-take_lasts text at left after (Ok l) some enough = take_due _ _ _ refl some enough
-take_lasts text at left after (Err f) some enough = none refl
+take_lasts : (text : List ℕ) (at left after : ℕ) (r : Result Line TextFault) → 0 < left → length text < after + left
+    → Lasts text left (due_with at (take_of r after))
+take_lasts text at left after (Ok l) some enough = take_due _ _ _ _ refl some enough
+take_lasts text at left after (Err f) some enough = refused _
 
-settle_lasts : (text : List ℕ) (left at : ℕ) (due : Bool) → 0 < left - 1 → length text ≤ at + (left - 1)
-    → Lasts text (due_with at left (cond due (Settle (settle_asked text at)) (Bad 1)))
-settle_lasts text left at true some enough = settle_due at refl some enough
-settle_lasts text left at false some enough = none refl
+settle_lasts : (text : List ℕ) (left at : ℕ) (due : Bool) → 0 < left → length text ≤ at + left
+    → let coming : Coming = cond due (Ok (Some (Settle (settle_asked text at)))) (Err NotDue) in
+    Lasts text left (due_with at coming)
+settle_lasts text left at true some enough = settle_due _ at refl some enough
+settle_lasts text left at false some enough = refused _
 
-due_lasts : (text : List ℕ) (at left : ℕ) → length text < at + left → Lasts text (due_at text at left)
+due_lasts : (text : List ℕ) (at left : ℕ) → length text < at + left → Lasts text (left - 1) (due_at text at)
 unfolding next_at
 due_lasts text at left enough = by (ltb at (length text)) refl (has 10 (drop at text)) (key_is line (word "take"))
   where
@@ -65,17 +66,18 @@ due_lasts text at left enough = by (ltb at (length text)) refl (has 10 (drop at 
     read : Result Line TextFault
     read = value_of take_row (value_part line)
 
-    by : (t : Bool) → ltb at (length text) ≡ t → (ended taken : Bool)
-        → Lasts text (due_with at left
-        (cond t (cond ended (cond taken (take_of read (place_after text at)) (cond (key_is line (word "hour")) (Settle (settle_asked text at)) (Bad 1))) (Bad 4)) Ends))
-    by false e ended taken = none refl
-    by true e false taken = none refl
+    by : (t : Bool) → ltb at (length text) ≡ t → (lf taken : Bool)
+        → let coming : Coming =
+        cond t (cond lf (cond taken (take_of read (place_after text at)) (cond (key_is line (word "hour")) (Ok (Some (Settle (settle_asked text at)))) (Err NotDue))) (Err TextEnds)) (Ok None) in
+        Lasts text (left - 1) (due_with at coming)
+    by false e lf taken = ended
+    by true e false taken = refused _
     by true e true true =
         let inside : at < length text = ltb-true _ _ e in
-        take_lasts text at left (place_after text at) read (omega arith) (omega arith)
+        take_lasts text at (left - 1) (place_after text at) read (omega arith) (omega arith)
     by true e true false =
         let inside : at < length text = ltb-true _ _ e in
-        settle_lasts text left at (key_is line (word "hour")) (omega arith) (omega arith)
+        settle_lasts text (left - 1) at (key_is line (word "hour")) (omega arith) (omega arith)
 
 -- a take posts nothing
 take_answer : (s : Sheet) (b : Book) (hour unit kwh count places : ℕ) (posted : Bool) (n : ℕ)
@@ -132,84 +134,64 @@ module _ (s : Sheet) (b : Book) (text : List ℕ) (at count places : ℕ) (poste
       by (Err x) e = unread x (not (sheet_holds s)) (not (book_fits s b count places posted))
 
 -- after a call that was due nothing is due, or another call for which the count has bytes left
-answered_lasts : (text : List ℕ) (x : Due) (place : ℕ) (a : Answer) → Lasts text x → 0 < x.left
+answered_lasts : (text : List ℕ) (left : ℕ) (x : Due) (place : ℕ) (a : Answer) → Lasts text left (Ok (Some x))
     → ((hour unit kwh : ℕ) → x.asked ≡ take_asked hour unit kwh → (n : ℕ) → a ≡ Ok (Posted n) → ⊥)
     → ((at : ℕ) → x.asked ≡ settle_asked text at → (a ≡ Ok Committed → ⊥) × ((n : ℕ) → a ≡ Ok (Posted n) → at < place))
-    → Lasts text (answered_by text x.after x.left place a)
-answered_lasts text x place (Err r) lasts some take settle = none refl
-answered_lasts text x place (Ok Committed) (none e) some take settle = absurd (omega (arith, ap (λ (d : Due). d.left) e))
-answered_lasts text x place (Ok Committed) (take_due h u k e l enough) some take settle = due_lasts text x.after x.left enough
-answered_lasts text x place (Ok Committed) (settle_due at e l enough) some take settle = absurd ((settle at e).0 refl)
-answered_lasts text x place (Ok (Posted n)) (none e) some take settle = absurd (omega (arith, ap (λ (d : Due). d.left) e))
-answered_lasts text x place (Ok (Posted n)) (take_due h u k e l enough) some take settle = absurd (take h u k e n refl)
-answered_lasts text x place (Ok (Posted n)) (settle_due at e l enough) some take settle =
+    → Lasts text (left - 1) (answered_by text x.after place a)
+answered_lasts text left x place (Err r) lasts take settle = refused _
+answered_lasts text left x place (Ok Committed) (take_due _ h u k e l enough) take settle = due_lasts text x.after left enough
+answered_lasts text left x place (Ok Committed) (settle_due _ at e l enough) take settle = absurd ((settle at e).0 refl)
+answered_lasts text left x place (Ok (Posted n)) (take_due _ h u k e l enough) take settle = absurd (take h u k e n refl)
+answered_lasts text left x place (Ok (Posted n)) (settle_due _ at e l enough) take settle =
     let later = (settle at e).1 n refl in
-    due_lasts text place x.left (omega arith)
-
--- what is due in a day
-abbrev due_in : Day → Due
-due_in d = record { left = d.left; asked = d.asked; after = d.after; refusal = d.refusal }
+    due_lasts text place left (omega arith)
 
 module _ (sheet : Sheet) (text : List ℕ) where
-  take_told : (r : Running) (hour unit kwh : ℕ) → r.day.asked ≡ take_asked hour unit kwh → (n : ℕ) → (performed_in sheet text r).outcome.answer ≡ Ok (Posted n) → ⊥
+  take_told : (r : Running) (x : Due) (hour unit kwh : ℕ) → x.asked ≡ take_asked hour unit kwh → (n : ℕ) → (performed_in sheet text r x).outcome.answer ≡ Ok (Posted n) → ⊥
   unfolding performed call_for
-  take_told r hour unit kwh e n h =
+  take_told r x hour unit kwh e n h =
       take_answer sheet r.day.book hour unit kwh r.day.count _ _ n
       (subst (λ (a : Asked). (performed r.list r.day.count sheet r.day.book (call_for text a)).outcome.answer ≡ Ok (Posted n)) e h)
 
-  settle_told : (r : Running) (at : ℕ) → r.day.asked ≡ settle_asked text at
-      → let o = (performed_in sheet text r).outcome in
+  settle_told : (r : Running) (x : Due) (at : ℕ) → x.asked ≡ settle_asked text at
+      → let o = (performed_in sheet text r x).outcome in
       (o.answer ≡ Ok Committed → ⊥) × ((n : ℕ) → o.answer ≡ Ok (Posted n) → at < o.place)
   unfolding performed call_for
-  settle_told r at e =
+  settle_told r x at e =
       subst (λ (a : Asked). let o = (performed r.list r.day.count sheet r.day.book (call_for text a)).outcome in
       (o.answer ≡ Ok Committed → ⊥) × ((n : ℕ) → o.answer ≡ Ok (Posted n) → at < o.place)) (sym e) (
         settle_answer sheet r.day.book (part_of text 0 (length text)) at r.day.count _ _,
         settle_place sheet r.day.book (part_of text 0 (length text)) at r.day.count _ _,
       )
 
-  turn_lasts : (r : Running) → Lasts text (due_in r.day) → 0 < r.day.left → Lasts text (due_in (turned sheet text r).day)
+  turn_lasts : (r : Running) (x : Due) (left : ℕ) → Lasts text left (Ok (Some x)) → Lasts text (left - 1) (turned sheet text r x).day.due
   unfolding turned day_after
-  turn_lasts r lasts some =
-      let o = (performed_in sheet text r).outcome in
-      answered_lasts text (due_in r.day) o.place o.answer lasts some (take_told r) (settle_told r)
+  turn_lasts r x left lasts =
+      let o = (performed_in sheet text r x).outcome in
+      answered_lasts text left x o.place o.answer lasts (take_told r x) (settle_told r x)
 
-  -- the turns from a day on end in one with no call left
-  record Ended (r : Running) : Type 0 where
-    lasts : Lasts text (due_in r.day)
-    last : r.day.left ≡ 0
+  -- a count that lasts ends in a day with no call due
+  no_more : (p : Pending) → Lasts text 0 p → NoneDue p
+  no_more (Ok None) l x e = absurd (let z : ◌≡◌ {A = ℕ} 0 1 = cc in omega arith)
+  no_more (Err r) l x e = absurd (let z : ◌≡◌ {A = ℕ} 0 1 = cc in omega arith)
+  no_more (Ok (Some y)) (take_due _ h u k e l enough) x f = absurd (omega arith)
+  no_more (Ok (Some y)) (settle_due _ at e l enough) x f = absurd (omega arith)
 
-  ended_now : (r : Running) → Lasts text (due_in r.day) → r.day.left ≡ 0 → Ended (ran_out sheet text r)
-  ended_now r lasts e = rw (ran_end sheet text r e) (record { lasts = lasts; last = e })
+  by_due : (left : ℕ) (r : Running) (p : Pending) → r.day.due ≡ p → Lasts text left p
+      → ((x : Due) → Lasts text (left - 1) (turned sheet text r x).day.due → NoneDue (ran_to sheet text left (turned sheet text r x)).day.due)
+      → NoneDue (ran_by sheet text (ran_to sheet text left) r p).day.due
+  by_due left r (Ok (Some x)) e l next = next x (turn_lasts r x left l)
+  by_due left r (Ok None) e l next = λ x f. let same = sym e ∙ f in absurd (let z : ◌≡◌ {A = ℕ} 0 1 = cc in omega arith)
+  by_due left r (Err y) e l next = λ x f. let same = sym e ∙ f in absurd (let z : ◌≡◌ {A = ℕ} 0 1 = cc in omega arith)
 
-  ran_lasts : (k : ℕ) (r : Running) → r.day.left ≤ k → Lasts text (due_in r.day) → Ended (ran_out sheet text r)
-  ran_lasts zero r few lasts = ended_now r lasts (omega arith)
-  ran_lasts (suc k) r few lasts =
-      by r.day.left refl (λ (fewer : (turned sheet text r).day.left ≤ k) (some : 0 < r.day.left). ran_lasts k (turned sheet text r) fewer (turn_lasts r lasts some))
-    where
-      by : (left : ℕ) → r.day.left ≡ left
-          → ((turned sheet text r).day.left ≤ k → 0 < r.day.left → Ended (ran_out sheet text (turned sheet text r))) → Ended (ran_out sheet text r)
-      by zero e next = ended_now r lasts e
-      by (suc j) e next =
-          let fewer : (turned sheet text r).day.left ≤ k = ⊎_elim (λ z. omega arith) (λ z. omega arith) (left_next sheet text r) in
-          rw (← (ran_next sheet text r j e)) (next fewer (omega arith))
-
-  -- where the first call has its bytes, no call is left at the end, and none is due
-  ended_at : (at : ℕ) → Lasts text (due_in (begun text at).day) → let d = day_from sheet text at in d ≡ day_with d.count d.book (none_due d.refusal)
-  ended_at at first = by (ran_lasts (begun text at).day.left (begun text at) (omega arith) first)
-    where
-      d : Day
-      d = day_from sheet text at
-
-      due : Lasts text (due_in d) → d.left ≡ 0 → due_in d ≡ none_due d.refusal
-      due (none e) z = e
-      due (take_due hour unit kwh e some enough) z = absurd (omega arith)
-      due (settle_due place e some enough) z = absurd (omega arith)
-
-      by : Ended (ran_out sheet text (begun text at)) → d ≡ day_with d.count d.book (none_due d.refusal)
-      by e = ap (day_with d.count d.book) (due e.lasts e.last)
+  ran_lasts : (k : ℕ) (r : Running) → Lasts text (k - 1) r.day.due → NoneDue (ran_to sheet text k r).day.due
+  unfolding ran_to
+  ran_lasts zero r lasts = no_more r.day.due lasts
+  ran_lasts (suc k) r lasts =
+      let same : suc k - 1 ≡ k = omega arith in
+      by_due k r r.day.due refl (subst (λ (j : ℕ). Lasts text j r.day.due) same lasts) (λ x l. ran_lasts k (turned sheet text r x) l)
 
   -- "until the day has ended"
-  pub none_left : (at : ℕ) → let d = day_from sheet text at in d ≡ day_with d.count d.book (none_due d.refusal)
+  pub none_left : (at : ℕ) → NoneDue (day_from sheet text at).due
   unfolding begun
-  none_left at = ended_at at (due_lasts text at (suc (length text)) (omega arith))
+  none_left at = ran_lasts (most_calls text) (begun text at) (due_lasts text at (suc (length text)) (omega arith))

@@ -2,12 +2,13 @@
 // come, over a journal of 2,000 places.
 #![tactic(auto)]
 
-ghost use Rattle.std.specs.Prelude.{◌≡◌, true, ◌+◌, ◌-◌, ◌≤◌};
+ghost use Rattle.std.specs.Prelude.{◌≡◌, true, ◌+◌, ◌≤◌};
 ghost use Rattle.sheet.specs.Ranges.{sheet_holds};
 ghost use Rattle.decimal.specs.Output.{output, filled};
 ghost use Rattle.decimal.specs.Writer.{Wrote};
 ghost use Rattle.listing.specs.Listing.{most_bytes};
-ghost use Rattle.account.specs.Day.{none_due, call_due, due_at, answered_by, day_with, day_from};
+ghost use Rattle.account.specs.Day.{day_number, due_at, answered_by, day_from};
+ghost use Rattle.account.specs.declared.DayRefusal.TheVariants.{Line as not_a_call, Call as refused_call};
 ghost use Rattle.account.specs.Statement.{day_lines, statement_of};
 
 use day_calls::Next;
@@ -15,62 +16,72 @@ use decimal::Writer;
 use ledger::{Asked, Effect, Refusal};
 use sheet::Sheet;
 use state::Book;
+use text::TextFault;
 
-// What is due in the day. While calls are left, one is asked for, and `after` is the place after its line; otherwise the day has ended, and
-// the refusal is its number or 0.
+// Why a day is refused: a line that is no call, or a call that is refused.
+#[derive(Clone, Copy)]
+pub enum DayRefusal {
+    Line(TextFault),
+    Call(Refusal),
+}
+
+impl From<TextFault> for DayRefusal {
+    ghost from_gives = { λ t r. r ≡ not_a_call t };
+
+    fn from(line: TextFault) -> DayRefusal {
+        DayRefusal::Line(line)
+    }
+}
+
+impl From<Refusal> for DayRefusal {
+    ghost from_gives = { λ t r. r ≡ refused_call t };
+
+    fn from(call: Refusal) -> DayRefusal {
+        DayRefusal::Call(call)
+    }
+}
+
+impl DayRefusal {
+    // Document 01's number.
+    pub fn number(self) -> u64
+        ensures { result ≡ day_number self }
+    {
+        match self {
+            DayRefusal::Line(fault) => fault.number(),
+            DayRefusal::Call(refusal) => refusal.number(),
+        }
+    }
+}
+
+// A call that is due, and the place after its line; a record's call keeps the place of the record.
 #[derive(Clone, Copy)]
 pub struct Due {
-    pub left: usize,
     pub asked: Asked,
     pub after: usize,
-    pub refusal: u64,
 }
 
-// A day, with what is due in it.
+// A day, with what is due in it: a call, or none where its text has ended; or why it is refused.
 #[derive(Clone, Copy)]
 pub struct Day {
-    pub left: usize,
     pub count: u64,
     pub book: Book,
-    pub asked: Asked,
-    pub after: usize,
-    pub refusal: u64,
+    pub due: Result<Option<Due>, DayRefusal>,
 }
 
-// The day has ended, with a refusal's number or 0.
-fn none_due(refusal: u64) -> Due
-    ensures { result ≡ none_due refusal }
+// What is due at a place.
+fn due_at(text: &[u8], at: usize) -> Result<Option<Due>, DayRefusal>
+    ensures { result ≡ due_at text.now at }
 {
-    Due {
-        left: 0,
-        asked: Asked::default(),
-        after: 0,
-        refusal: refusal,
-    }
-}
-
-// A call is due, and one fewer is left.
-fn call_due(asked: Asked, after: usize, left: usize) -> Due
-    ensures { result ≡ call_due asked after left }
-{
-    Due {
-        left: left.saturating_sub(1),
-        asked: asked,
-        after: after,
-        refusal: 0,
-    }
-}
-
-// What is due with what comes at a place.
-fn due_at(text: &[u8], at: usize, left: usize) -> Due
-    ensures { result ≡ due_at text.now at left }
-{
-    let next = day_calls::next_at(text, at);
-    match next {
-        Next::Ends => none_due(0),
-        Next::Bad(number) => none_due(number),
-        Next::Take(asked, after) => call_due(asked, after, left),
-        Next::Settle(asked) => call_due(asked, at, left),
+    match day_calls::next_at(text, at)? {
+        Some(Next::Take(asked, after)) => Ok(Some(Due {
+            asked: asked,
+            after: after,
+        })),
+        Some(Next::Settle(asked)) => Ok(Some(Due {
+            asked: asked,
+            after: at,
+        })),
+        None => Ok(None),
     }
 }
 
@@ -78,36 +89,20 @@ fn due_at(text: &[u8], at: usize, left: usize) -> Due
 fn due_after(
     text: &[u8],
     after: usize,
-    left: usize,
     place: u64,
     answer: Result<Effect, Refusal>,
-) -> Due
-    ensures { result ≡ answered_by text.now after left place answer }
+) -> Result<Option<Due>, DayRefusal>
+    ensures { result ≡ answered_by text.now after place answer }
 {
-    match answer {
-        Ok(Effect::Committed) => due_at(text, after, left),
-        Ok(Effect::Posted(_)) => due_at(text, place as usize, left),
-        Err(refusal) => none_due(refusal.number()),
+    match answer? {
+        Effect::Committed => due_at(text, after),
+        Effect::Posted(_) => due_at(text, place as usize),
     }
 }
 
-// The day with what is due in it.
-fn day_with(count: u64, book: Book, due: Due) -> Day
-    ensures { result ≡ day_with count book due }
-{
-    let asked = due.asked;
-    Day {
-        left: due.left,
-        count: count,
-        book: book,
-        asked: asked,
-        after: due.after,
-        refusal: due.refusal,
-    }
-}
-
-// The day behind a sheet that passes 9, over a journal of 2,000 places: each call is carried out as it comes, on the numbers of the book. What is posted is
-// not printed, so the number of postings alone is kept.
+// The day behind a sheet that passes 9, over a journal of 2,000 places: each call is carried out as it comes, on the
+// numbers of the book. What is posted is not printed, so the number of postings alone is kept. Each call takes a byte
+// of the text at least, so no more come than the loop has turns.
 fn day_of(sheet: Sheet, text: &[u8], at: usize) -> Day
     requires { sheet_holds sheet ≡ true }
     ensures { result ≡ day_from sheet text.now at }
@@ -120,9 +115,11 @@ fn day_of(sheet: Sheet, text: &[u8], at: usize) -> Day
     let mut amounts = [0i64; 960];
     let mut rows = [0i64; 40];
     let mut count: u64 = 0;
-    let mut due = due_at(text, at, text.len() + 1);
-    while 0 < due.left {
-        let call = decisions::decode(due.asked);
+    let mut due = due_at(text, at);
+    for _ in 0..text.len() + 1 {
+        let Ok(Some(next)) = due else {
+            break;
+        };
         let done = engine::carry_out(
             &mut commitment,
             &mut mark,
@@ -133,19 +130,18 @@ fn day_of(sheet: Sheet, text: &[u8], at: usize) -> Day
             &offers,
             terms,
             text,
-            call,
+            decisions::decode(next.asked),
             count,
             2000,
         );
-        let answer = done.answer;
-        count += decisions::posted_of(answer);
-        due = due_after(text, due.after, due.left, done.place, answer);
+        count += decisions::posted_of(done.answer);
+        due = due_after(text, next.after, done.place, done.answer);
     }
-    day_with(
-        count,
-        numbers::book_by(&commitment, mark, &energy, &amounts),
-        due,
-    )
+    Day {
+        count: count,
+        book: numbers::book_by(&commitment, mark, &energy, &amounts),
+        due: due,
+    }
 }
 
 // What is printed of a day.
@@ -154,10 +150,13 @@ fn put_day(out: &mut Writer, units: u64, day: &Day)
     ensures result_after { Wrote out.old out.new (day_lines units day.now) }
     ensures upper_bound { out.new.place ≤ out.old.place + most_bytes }
 {
-    if day.refusal == 0 {
-        listing::put_settled(out, units, &day.book);
-    } else {
-        listing::put_refusal(out, day.refusal);
+    match day.due {
+        Ok(_) => {
+            listing::put_settled(out, units, &day.book);
+        }
+        Err(refusal) => {
+            listing::put_refusal(out, refusal.number());
+        }
     }
 }
 

@@ -2,8 +2,8 @@
 -- comes, the stored ones took six bytes each before it, so a list with a place for every six bytes has places for all.
 -- Assumes nothing.
 use mathlib.Core.Path.{◌≡◌, refl, ap, sym, ◌∙◌}
-use mathlib.Core.Bool.{Bool, true, false, not}
-use mathlib.Core.List.{List, [], ◌∷◌, ◌++◌, append-nil}
+use mathlib.Core.Bool.{Bool, true, false}
+use mathlib.Core.List.{List, [], ◌∷◌, ◌++◌}
 use Prim.Native.Nat.{ℕ, ◌+◌, ◌*◌, ◌/◌, ◌≤◌, ◌<◌}
 use native.Mathlib.Omega.{arith}
 use borrow.Author.Tests.{lt-ltb, ltb-true, ltb-false}
@@ -16,7 +16,8 @@ use Rattle.numbers.proofs.Pasted.{pasted_before, pasted_in}
 use Rattle.ledger.specs.declared.Asked.{Asked}
 use Rattle.ledger.specs.Requests.{call_numbers, asked_at, none_asked}
 use Rattle.day_calls.specs.declared.Step.{Step}
-use Rattle.day_calls.specs.DayCalls.{step_at, DayCalls, no_calls, with_call, calls_by, day_calls, line_bytes, number_of, stored_at, Lists}
+use Rattle.std.specs.Prelude.{Ok, Some}
+use Rattle.day_calls.specs.DayCalls.{Stepped, step_at, DayCalls, with_call, calls_by, day_calls, line_bytes, number_of, stored_at}
 use Rattle.day_calls.proofs.Steps.{step_goes, day_calls_is}
 
 -- a stored call read back, and the earlier ones as they were
@@ -82,26 +83,26 @@ abbrev in_front : List Asked → DayCalls → DayCalls
 in_front done rest = record { calls = done ++ rest.calls; ending = rest.ending }
 
 -- n calls are stored, and the step is the next one
-pub record Listing (text : List ℕ) (from : ℕ) (calls : List ℕ) (n : ℕ) (s : Step) : Type 0 where
+pub record Listing (text : List ℕ) (from : ℕ) (calls : List ℕ) (n : ℕ) (t : Stepped) : Type 0 where
   pub done : List Asked
-  pub all : day_calls text from ≡ in_front done (calls_by (day_calls text) s)
+  pub all : day_calls text from ≡ in_front done (calls_by (day_calls text) t)
   pub count : length done ≡ n
   pub stored : (i : ℕ) → i < n → asked_at calls i ≡ get_or done i none_asked
   pub few : line_bytes * n ≤ length text
-  pub more : s.more ≡ true → (line_bytes * n + line_bytes ≤ s.after) × (s.after ≤ length text)
+  pub more : (s : Step) → t ≡ Ok (Some s) → (line_bytes * n + line_bytes ≤ s.after) × (s.after ≤ length text)
 
-pub listing_first : (text : List ℕ) (from : ℕ) (calls : List ℕ) (s : Step) → s ≡ step_at text from → Listing text from calls 0 s
-listing_first text from calls s e =
+pub listing_first : (text : List ℕ) (from : ℕ) (calls : List ℕ) (t : Stepped) → t ≡ step_at text from → Listing text from calls 0 t
+listing_first text from calls t e =
     record {
       done = [];
       all = day_calls_is text from ∙ ap (calls_by (day_calls text)) (sym e);
       count = refl;
       stored = λ i b. absurd (omega arith);
       few = omega arith;
-      more = rw e (λ m. let on = step_goes text from m in (omega (arith, on.0), on.1));
+      more = λ s m. let on = step_goes text from s (sym e ∙ m) in (omega (arith, on.0), on.1);
     }
 
-module _ (text : List ℕ) (from : ℕ) (calls : List ℕ) (n : ℕ) (s : Step) (l : Listing text from calls n s) (m : s.more ≡ true)
+module _ (text : List ℕ) (from : ℕ) (calls : List ℕ) (n : ℕ) (t : Stepped) (s : Step) (l : Listing text from calls n t) (m : t ≡ Ok (Some s))
     (room : n < length calls / call_numbers) where
   abbrev stored' : List ℕ
   stored' = stored_at calls n s.asked
@@ -121,40 +122,19 @@ module _ (text : List ℕ) (from : ℕ) (calls : List ℕ) (n : ℕ) (s : Step) 
           ap (asked_at stored') q
           ∙ (stored_here calls n s.asked room ∙ sym (ap (λ (j : ℕ). get_or done' j none_asked) q ∙ get_or_at l.done s.asked [] none_asked n l.count))
 
-  next_calls : calls_by (day_calls text) s ≡ with_call s.asked (day_calls text s.after)
-  next_calls = simp m
+  next_calls : calls_by (day_calls text) t ≡ with_call s.asked (day_calls text s.after)
+  next_calls = ap (calls_by (day_calls text)) m
 
-  pub listing_next : (s' : Step) → s' ≡ step_at text s.after → Listing text from stored' (n + 1) s'
-  listing_next s' e =
+  pub listing_next : (t' : Stepped) → t' ≡ step_at text s.after → Listing text from stored' (n + 1) t'
+  listing_next t' e =
       record {
         done = done';
         all =
             l.all
             ∙ (ap (in_front l.done) (next_calls ∙ ap (with_call s.asked) (day_calls_is text s.after ∙ ap (calls_by (day_calls text)) (sym e)))
-            ∙ ap {B = DayCalls} (λ (cs : List Asked). record { calls = cs; ending = (calls_by (day_calls text) s').ending }) (sym (append_snoc l.done s.asked (calls_by (day_calls text) s').calls)));
+            ∙ ap {B = DayCalls} (λ (cs : List Asked). record { calls = cs; ending = (calls_by (day_calls text) t').ending }) (sym (append_snoc l.done s.asked (calls_by (day_calls text) t').calls)));
         count = length-append l.done (s.asked ∷ []) ∙ ap (λ (k : ℕ). k + 1) l.count;
         stored = asked_at_lem;
-        few = let k = l.more m in omega (arith, k.0, k.1);
-        more = rw e (λ m'. let on = step_goes text s.after m' in let k = l.more m in (omega (arith, on.0, k.0), on.1));
+        few = let k = l.more s m in omega (arith, k.0, k.1);
+        more = λ s' m'. let on = step_goes text s.after s' (sym e ∙ m') in let k = l.more s m in (omega (arith, on.0, k.0), on.1);
       }
-
--- in a list with a place for every six bytes the next call has its places
-pub listing_room : (text : List ℕ) (from : ℕ) (calls : List ℕ) (n places : ℕ) (s : Step) → Listing text from calls n s → s.more ≡ true → length text / line_bytes ≤ places → n < places
-listing_room text from calls n places s l m h = let k = l.more m in omega (arith, k.0, k.1)
-
-pub listing_all : (text : List ℕ) (from : ℕ) (calls : List ℕ) (n : ℕ) (s : Step) → Listing text from calls n s → s.more ≡ false
-    → Lists text from calls (record { calls = n; ending = s.ending; all = not s.more })
-listing_all text from calls n s l m =
-    record {
-      number_is = sym l.count ∙ ap (λ (d : DayCalls). length d.calls) (sym whole);
-      ending_is = ap (λ (d : DayCalls). d.ending) (sym whole);
-      call_at = λ i b. l.stored i b ∙ ap (λ (d : DayCalls). get_or d.calls i none_asked) (sym whole);
-    }
-  where
-    none : calls_by (day_calls text) s ≡ no_calls s.ending
-    none = simp m
-
-    whole : day_calls text from ≡ record { calls = l.done; ending = s.ending }
-    whole =
-        l.all
-        ∙ (ap (in_front l.done) none ∙ ap {B = DayCalls} (λ (cs : List Asked). record { calls = cs; ending = s.ending }) (append-nil l.done))

@@ -10,17 +10,19 @@ use lib.ListN.{length, drop, take, length-drop}
 use Rattle.text.specs.Text.{seek, before, value_part, key_is}
 use Rattle.text.specs.Rows.{word}
 use Rattle.values.specs.Values.{value_of}
-use Rattle.day_calls.specs.declared.Next.TheVariants.{Ends, Bad, Settle}
-use Rattle.day_calls.specs.DayCalls.{take_row, take_of, settle_asked, next_at}
+use Rattle.std.specs.Prelude.{Ok, Err, Some, None}
+use Rattle.text.specs.declared.TextFault.TheVariants.{NotDue, TextEnds}
+use Rattle.day_calls.specs.declared.Next.TheVariants.{Settle}
+use Rattle.day_calls.specs.DayCalls.{take_row, take_of, settle_asked, next_at, Coming}
 
 module _ (text : List ℕ) (at : ℕ) where
-  pub past_end : length text ≤ at → Ends ≡ next_at text at
+  pub past_end : length text ≤ at → ◌≡◌ {A = Coming} (Ok None) (next_at text at)
   unfolding next_at
   past_end h = simp (le-ltb _ _ h)
 
   -- the LF is looked for from the place and found at e
   module _ (inside : at < length text) (e : ℕ) (he : e ≡ at + seek 10 10 (drop at text)) where
-    pub unended : length text ≤ e → Bad 4 ≡ next_at text at
+    pub unended : length text ≤ e → ◌≡◌ {A = Coming} (Err TextEnds) (next_at text at)
     unfolding next_at
     unended h =
         let n : length (drop at text) ≤ seek 10 10 (drop at text) = omega (arith, length-drop at text) in
@@ -43,7 +45,7 @@ module _ (text : List ℕ) (at : ℕ) where
           (ap (λ (x : List ℕ). take_of (value_of take_row (value_part x)) (e + 1)) whole
           ∙ ap (λ (x : ℕ). take_of (value_of take_row (value_part (before 10 (drop at text)))) (x + 1)) he)
 
-      pub record_line : key_is line (word "take") ≡ false → key_is line (word "hour") ≡ true → Settle (settle_asked text at) ≡ next_at text at
+      pub record_line : key_is line (word "take") ≡ false → key_is line (word "hour") ≡ true → ◌≡◌ {A = Coming} (Ok (Some (Settle (settle_asked text at)))) (next_at text at)
       unfolding next_at
       record_line k h =
           simp (
@@ -53,7 +55,7 @@ module _ (text : List ℕ) (at : ℕ) where
             ap (λ (x : List ℕ). key_is x (word "hour")) (sym whole) ∙ h,
           )
 
-      pub other_line : key_is line (word "take") ≡ false → key_is line (word "hour") ≡ false → Bad 1 ≡ next_at text at
+      pub other_line : key_is line (word "take") ≡ false → key_is line (word "hour") ≡ false → ◌≡◌ {A = Coming} (Err NotDue) (next_at text at)
       unfolding next_at
       other_line k h =
           simp (

@@ -13,15 +13,16 @@ use lib.Seq.{length-take-le}
 use Rattle.text.specs.Text.{seek, before, has, value_part, word_is, key_is}
 use Rattle.text.specs.Rows.{word}
 use Rattle.values.specs.Values.{value_of}
-use Rattle.std.specs.Prelude.{Result, Ok, Err}
+use Rattle.std.specs.Prelude.{Result, Ok, Err, Some, None}
 use Rattle.text.specs.declared.Line.{Line}
 use Rattle.text.specs.declared.TextFault.{TextFault}
+use Rattle.text.specs.declared.TextFault.TheVariants.{NotDue, TextEnds}
 use Rattle.lines.specs.Lines.{place_after}
 use Rattle.record_end.specs.End.{behind_record}
 use Rattle.record_end.proofs.Behind.{behind_line, behind_le}
-use Rattle.day_calls.specs.declared.Next.TheVariants.{Ends, Bad, Settle}
+use Rattle.day_calls.specs.declared.Next.TheVariants.{Settle}
 use Rattle.day_calls.specs.declared.Step.{Step}
-use Rattle.day_calls.specs.DayCalls.{take_row, settle_asked, take_of, next_at, step_by, step_at, DayCalls, no_calls, with_call, calls_by, calls_from, day_calls, line_bytes}
+use Rattle.day_calls.specs.DayCalls.{take_row, settle_asked, take_of, next_at, Coming, Stepped, step_by, step_at, DayCalls, no_calls, with_call, calls_by, calls_from, day_calls, line_bytes}
 
 -- a word has as many bytes as stand before its '='
 word_length : (s w : List ℕ) → word_is s w ≡ true → length s ≡ seek 61 61 w
@@ -74,13 +75,22 @@ module _ (text : List ℕ) (at : ℕ) (lf : has 10 (drop at text) ≡ true) wher
   record_inside h = omega (arith, behind_le true (drop at text), length-drop at text)
 
 -- a step that is a call goes on by six bytes at least, inside the text
-abbrev Goes : List ℕ → (at : ℕ) → Step → Type 0
-Goes text at s = s.more ≡ true → (at + line_bytes ≤ s.after) × (s.after ≤ length text)
+abbrev Goes : List ℕ → (at : ℕ) → Stepped → Type 0
+Goes text at t = (s : Step) → t ≡ Ok (Some s) → (at + line_bytes ≤ s.after) × (s.after ≤ length text)
+
+none_goes : (text : List ℕ) (at : ℕ) → Goes text at (Ok None)
+none_goes text at s m = absurd (let z : ◌≡◌ {A = ℕ} 0 1 = cc in omega arith)
+
+fault_goes : (text : List ℕ) (at : ℕ) (f : TextFault) → Goes text at (Err f)
+fault_goes text at f s m = absurd (let z : ◌≡◌ {A = ℕ} 0 1 = cc in omega arith)
+
+call_goes : (text : List ℕ) (at : ℕ) (s : Step) → at + line_bytes ≤ s.after → s.after ≤ length text → Goes text at (Ok (Some s))
+call_goes text at s on within s' m = let e : s ≡ s' = cc in rw (← e) (on, within)
 
 take_goes : (text : List ℕ) (at after : ℕ) (r : Result Line TextFault) → at + line_bytes ≤ after → after ≤ length text
     → Goes text at (step_by text at (take_of r after))
-take_goes text at after (Ok l) on within m = (on, within)
-take_goes text at after (Err f) on within m = absurd (true≢false (sym m))
+take_goes text at after (Ok l) on within = call_goes text at _ on within
+take_goes text at after (Err f) on within = fault_goes text at f
 
 pub step_goes : (text : List ℕ) (at : ℕ) → Goes text at (step_at text at)
 unfolding next_at
@@ -94,37 +104,31 @@ step_goes text at = by (ltb at (length text)) refl (has 10 (drop at text)) refl 
 
     by : (t : Bool) → ltb at (length text) ≡ t → (lf : Bool) → has 10 (drop at text) ≡ lf → (taken : Bool) → key_is line (word "take") ≡ taken
         → (hour : Bool) → key_is line (word "hour") ≡ hour
-        → Goes text at (step_by text at (cond t (cond lf (cond taken (take_of read (place_after text at)) (cond hour (Settle (settle_asked text at)) (Bad 1))) (Bad 4)) Ends))
-    by false e lf f taken g hour h m = absurd (true≢false (sym m))
-    by true e false f taken g hour h m = absurd (true≢false (sym m))
-    by true e true f true g hour h m =
-        take_goes text at (place_after text at) read (line_size text at f (word "take") take_four g) (line_inside text at f) m
-    by true e true f false g true h m =
+        → let coming : Coming = cond t (cond lf (cond taken (take_of read (place_after text at)) (cond hour (Ok (Some (Settle (settle_asked text at)))) (Err NotDue))) (Err TextEnds)) (Ok None) in
+        Goes text at (step_by text at coming)
+    by false e lf f taken g hour h = none_goes text at
+    by true e false f taken g hour h = fault_goes text at TextEnds
+    by true e true f true g hour h =
+        take_goes text at (place_after text at) read (line_size text at f (word "take") take_four g) (line_inside text at f)
+    by true e true f false g true h =
         let size = line_size text at f (word "hour") hour_four h in
         let behind = record_size text at f in
-        (omega arith, record_inside text at f (ltb-true _ _ e))
-    by true e true f false g false h m = absurd (true≢false (sym m))
+        call_goes text at _ (omega arith) (record_inside text at f (ltb-true _ _ e))
+    by true e true f false g false h = fault_goes text at NotDue
 
-past_end : (text : List ℕ) (at : ℕ) → length text ≤ at → (step_at text at).more ≡ false
+past_end : (text : List ℕ) (at : ℕ) → length text ≤ at → ◌≡◌ {A = Stepped} (step_at text at) (Ok None)
 unfolding next_at
 past_end text at h = simp (le-ltb _ _ h)
 
-past_ending : (text : List ℕ) (at : ℕ) → length text ≤ at → (step_at text at).ending ≡ 0
-unfolding next_at
-past_ending text at h = simp (le-ltb _ _ h)
-
 -- past the text's end there are no calls
-none_past : (text : List ℕ) (at : ℕ) (further : ℕ → DayCalls) → length text ≤ at → calls_by further (step_at text at) ≡ no_calls 0
-none_past text at further h = rw (past_end text at h, past_ending text at h)
+none_past : (text : List ℕ) (at : ℕ) (further : ℕ → DayCalls) → length text ≤ at → calls_by further (step_at text at) ≡ no_calls (Ok tt)
+none_past text at further h = ap (calls_by further) (past_end text at h)
 
 -- two counts that both last give the same calls
-by_step : (further other : ℕ → DayCalls) (s : Step) → (s.more ≡ true → further s.after ≡ other s.after) → calls_by further s ≡ calls_by other s
-by_step further other s same = by s.more same
-  where
-    by : (t : Bool) → (t ≡ true → further s.after ≡ other s.after)
-        → cond t (with_call s.asked (further s.after)) (no_calls s.ending) ≡ cond t (with_call s.asked (other s.after)) (no_calls s.ending)
-    by true f = ap (with_call s.asked) (f refl)
-    by false f = refl
+by_step : (further other : ℕ → DayCalls) (t : Stepped) → ((s : Step) → t ≡ Ok (Some s) → further s.after ≡ other s.after) → calls_by further t ≡ calls_by other t
+by_step further other (Ok (Some s)) same = ap (with_call s.asked) (same s refl)
+by_step further other (Ok None) same = refl
+by_step further other (Err f) same = refl
 
 enough : (n m : ℕ) (text : List ℕ) (at : ℕ) → length text < at + n → length text < at + m → calls_from text n at ≡ calls_from text m at
 unfolding calls_from
@@ -133,11 +137,11 @@ enough zero (suc m) text at p q = sym (none_past text at (calls_from text m) (om
 enough (suc n) zero text at p q = none_past text at (calls_from text n) (omega arith)
 enough (suc n) (suc m) text at p q =
     by_step (calls_from text n) (calls_from text m) (step_at text at)
-    (λ more. let on = (step_goes text at more).0 in enough n m text (step_at text at).after (omega arith) (omega arith))
+    (λ s more. let on = (step_goes text at s more).0 in enough n m text s.after (omega arith) (omega arith))
 
 -- the list without a count: the call at the place, and those behind it
 pub day_calls_is : (text : List ℕ) (at : ℕ) → day_calls text at ≡ calls_by (day_calls text) (step_at text at)
 unfolding calls_from
 day_calls_is text at =
     by_step (calls_from text (length text)) (day_calls text) (step_at text at)
-    (λ more. let on = (step_goes text at more).0 in enough (length text) (suc (length text)) text (step_at text at).after (omega arith) (omega arith))
+    (λ s more. let on = (step_goes text at s more).0 in enough (length text) (suc (length text)) text s.after (omega arith) (omega arith))

@@ -1,12 +1,12 @@
 -- A day's text behind its sheet, as a list of calls with an ending (01, Program and marked figures).
-use Rattle.std.specs.Prelude.{◌≡◌, ℕ, zero, suc, ◌*◌, ◌<◌, true, false, cond, List, [], ◌∷◌, ltb, length, drop, get_or, Result, Ok, Err}
+use Rattle.std.specs.Prelude.{◌≡◌, ℕ, zero, suc, ◌*◌, ◌<◌, false, cond, List, [], ◌∷◌, ltb, length, drop, get_or, Result, Ok, Err, Option, Some, None}
 use Rattle.std.proofs.Math.Seq.{paste}
 use Rattle.text.specs.Text.{before, has, value_part, key_is}
 use Rattle.text.specs.Rows.{word, limits}
 use Rattle.values.specs.Values.{value_of}
 use Rattle.text.specs.declared.Row.{Row}
-use Rattle.text.specs.Text.{fault_number}
 use Rattle.text.specs.declared.TextFault.{TextFault}
+use Rattle.text.specs.declared.TextFault.TheVariants.{NotDue, TextEnds}
 use Rattle.text.specs.declared.Line.{Line}
 use Rattle.lines.specs.Lines.{place_after}
 use Rattle.record_end.specs.End.{behind_record}
@@ -14,9 +14,8 @@ use Rattle.finite.specs.Finite.{tabulate}
 use Rattle.ledger.specs.declared.Asked.{Asked}
 use Rattle.ledger.specs.Requests.{call_numbers, none_asked, asked_at}
 use Rattle.day_calls.specs.declared.Next.{Next}
-use Rattle.day_calls.specs.declared.Next.TheVariants.{Ends, Bad, Take, Settle}
+use Rattle.day_calls.specs.declared.Next.TheVariants.{Take, Settle}
 use Rattle.day_calls.specs.declared.Step.{Step}
-use Rattle.day_calls.specs.declared.Listed.{Listed}
 
 -- "`take=hour:unit:kWh`"; "A take without three numbers of at most 9 digits is 2"
 abbrev pub most_taken : ℕ
@@ -42,57 +41,76 @@ take_asked hour unit kwh = record { kind = 1; hour = hour; unit = unit; to = 0; 
 abbrev pub settle_asked : List ℕ → (at : ℕ) → Asked
 settle_asked text at = record { kind = 4; hour = 0; unit = 0; to = 0; kwh = 0; begin = 0; end = length text; start = at }
 
+-- the take of a line's numbers
+abbrev pub taken : Line → Asked
+taken l = take_asked (get_or l.number 0 0) (get_or l.number 1 0) (get_or l.number 2 0)
+
+-- what comes at a place: a call, or none at the text's end; or why its line is refused
+abbrev pub Coming : Type 0
+Coming = Result (Option Next) TextFault
+
 -- the take of a line, with the place after it
-abbrev pub take_of : Result Line TextFault → (after : ℕ) → Next
-take_of (Ok l) after = Take (take_asked (get_or l.number 0 0) (get_or l.number 1 0) (get_or l.number 2 0)) after
-take_of (Err f) after = Bad (fault_number f)
+abbrev pub take_of : Result Line TextFault → (after : ℕ) → Coming
+take_of (Ok l) after = Ok (Some (Take (taken l) after))
+take_of (Err f) after = Err f
 
 -- the call of a line by its key; "a line of another key" is 1
-abbrev pub line_call : List ℕ → (at : ℕ) → (line : List ℕ) → Next
+abbrev pub line_call : List ℕ → (at : ℕ) → (line : List ℕ) → Coming
 line_call text at line =
     cond (key_is line (word "take")) (take_of (value_of take_row (value_part line)) (place_after text at))
-    (cond (key_is line (word "hour")) (Settle (settle_asked text at)) (Bad 1))
+    (cond (key_is line (word "hour")) (Ok (Some (Settle (settle_asked text at)))) (Err NotDue))
 
 -- "then `take=hour:unit:kWh` lines and hour records in any mixture": what comes at a place of the text. 4 where it "ends inside a line"
-unfoldable pub next_at : List ℕ → (at : ℕ) → Next
+unfoldable pub next_at : List ℕ → (at : ℕ) → Coming
 next_at text at =
     let rest = drop at text in
-    cond (ltb at (length text)) (cond (has 10 rest) (line_call text at (before 10 rest)) (Bad 4)) Ends
+    cond (ltb at (length text)) (cond (has 10 rest) (line_call text at (before 10 rest)) (Err TextEnds)) (Ok None)
 
 -- a call of the list with the place behind it: a take's is behind its line, a record's behind its first line that is exactly `end=hour`, or the text's
--- end; where no call comes, the ending
-abbrev pub end_step : (ending : ℕ) → Step
-end_step ending = record { more = false; asked = none_asked; after = 0; ending = ending }
+-- end
+abbrev pub step_of : List ℕ → (at : ℕ) → Next → Step
+step_of text at (Take a after) = record { asked = a; after = after }
+step_of text at (Settle a) = record { asked = a; after = behind_record text at }
 
-abbrev pub call_step : Asked → (after : ℕ) → Step
-call_step a after = record { more = true; asked = a; after = after; ending = 0 }
+-- where no call comes, none or the fault
+abbrev pub Stepped : Type 0
+Stepped = Result (Option Step) TextFault
 
-abbrev pub step_by : List ℕ → (at : ℕ) → Next → Step
-step_by text at Ends = end_step 0
-step_by text at (Bad number) = end_step number
-step_by text at (Take a after) = call_step a after
-step_by text at (Settle a) = call_step a (behind_record text at)
+abbrev pub step_by : List ℕ → (at : ℕ) → Coming → Stepped
+step_by text at (Ok (Some next)) = Ok (Some (step_of text at next))
+step_by text at (Ok None) = Ok None
+step_by text at (Err f) = Err f
 
-abbrev pub step_at : List ℕ → (at : ℕ) → Step
+abbrev pub step_at : List ℕ → (at : ℕ) → Stepped
 step_at text at = step_by text at (next_at text at)
 
--- the calls in their order, and the ending: 0 at the text's end, or the number of the line that is no call
+-- how a list of calls ends: at the text's end, or with the fault of the line that is no call
+abbrev pub Ending : Type 0
+Ending = Result (Unit {0}) TextFault
+
+abbrev pub ended_by : Stepped → Ending
+ended_by (Ok s) = Ok tt
+ended_by (Err f) = Err f
+
+-- the calls in their order, and the ending
 pub record DayCalls : Type 0 where
   pub calls : List Asked
-  pub ending : ℕ
+  pub ending : Ending
 
-abbrev pub no_calls : (ending : ℕ) → DayCalls
+abbrev pub no_calls : Ending → DayCalls
 no_calls ending = record { calls = []; ending = ending }
 
 abbrev pub with_call : Asked → DayCalls → DayCalls
 with_call a l = record { calls = a ∷ l.calls; ending = l.ending }
 
-abbrev pub calls_by : (ℕ → DayCalls) → Step → DayCalls
-calls_by further s = cond s.more (with_call s.asked (further s.after)) (no_calls s.ending)
+abbrev pub calls_by : (ℕ → DayCalls) → Stepped → DayCalls
+calls_by further (Ok (Some s)) = with_call s.asked (further s.after)
+calls_by further (Ok None) = no_calls (Ok tt)
+calls_by further (Err f) = no_calls (Err f)
 
 -- from a place on. Each call takes a byte of the text at least, so no more come than `left`: `day_calls_is` (proofs/Steps.antt) says it without a count
 unfoldable pub calls_from : List ℕ → (left at : ℕ) → DayCalls
-calls_from text zero at = no_calls 0
+calls_from text zero at = no_calls (Ok tt)
 calls_from text (suc left) at = calls_by (calls_from text left) (step_at text at)
 
 abbrev pub day_calls : List ℕ → (at : ℕ) → DayCalls
@@ -110,7 +128,7 @@ unfoldable pub stored_at : List ℕ → (i : ℕ) → Asked → List ℕ
 stored_at calls i a = paste calls (call_numbers * i) (tabulate call_numbers (number_of a)) call_numbers
 
 -- the list in numbers: how many calls, the ending, and each call at its place
-pub record Lists (text : List ℕ) (from : ℕ) (calls : List ℕ) (r : Listed) : Type 0 where
-  pub number_is : r.calls ≡ length (day_calls text from).calls
-  pub ending_is : r.ending ≡ (day_calls text from).ending
-  pub call_at : (i : ℕ) → i < r.calls → asked_at calls i ≡ get_or (day_calls text from).calls i none_asked
+pub record Lists (text : List ℕ) (from : ℕ) (calls : List ℕ) (n : ℕ) (ending : Ending) : Type 0 where
+  pub number_is : n ≡ length (day_calls text from).calls
+  pub ending_is : ending ≡ (day_calls text from).ending
+  pub call_at : (i : ℕ) → i < n → asked_at calls i ≡ get_or (day_calls text from).calls i none_asked

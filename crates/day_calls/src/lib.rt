@@ -1,37 +1,33 @@
 // A day's text behind its sheet, read into a list of calls in numbers and an ending: takes and hour records in any mixture.
 #![tactic(auto)]
 
-ghost use Rattle.std.specs.Prelude.{◌≡◌, true, ◌&&◌, ltb, ◌/◌, ◌≤◌, ◌<◌, length};
+ghost use Rattle.std.specs.Prelude.{◌≡◌, true, is_some, IfSome, ◌/◌, ◌≤◌, ◌<◌, length};
 ghost use Rattle.ledger.specs.Requests.{call_numbers};
-ghost use Rattle.day_calls.specs.DayCalls.{take_row, take_of, settle_asked, next_at, end_step, call_step, step_at, line_bytes, stored_at, Lists};
+ghost use Rattle.day_calls.specs.DayCalls.{take_row, taken, settle_asked, next_at, step_of, step_at, ended_by, line_bytes, stored_at, Lists};
 
 use ledger::Asked;
 use text::{Line, Row, TextFault};
 
-// What comes at a place of the text: its end; a line that is refused with a number; a take, with the place after its line; the settle of a record.
+// A call of the text: a take, with the place after its line; or the settle of a record.
 #[derive(Clone, Copy)]
 pub enum Next {
-    Ends,
-    Bad(u64),
     Take(Asked, usize),
     Settle(Asked),
 }
 
-// A call, and the place behind it; or, where there is no more, the ending of the list.
+// A call of the list, and the place behind it.
 #[derive(Clone, Copy)]
 pub struct Step {
-    pub more: bool,
     pub asked: Asked,
     pub after: usize,
-    pub ending: u64,
 }
 
-// How many calls were stored, and the ending: 0 at the text's end, or the number of the line that is no call. `all` says that no call is left.
+// How many calls were stored; and how the list ends, at the text's end or with the fault of the line that is no call.
+// None where calls are left.
 #[derive(Clone, Copy)]
 pub struct Listed {
     pub calls: usize,
-    pub ending: u64,
-    pub all: bool,
+    pub ending: Option<Result<(), TextFault>>,
 }
 
 fn take_row() -> Row
@@ -50,24 +46,18 @@ fn take_row() -> Row
 }
 
 // The take of a line's numbers.
-fn take_of(line: Result<Line, TextFault>, after: usize) -> Next
-    ensures { result ≡ take_of line after }
+fn take_asked(line: Line) -> Asked
+    ensures { result ≡ taken line }
 {
-    match line {
-        Ok(line) => Next::Take(
-            Asked {
-                kind: 1,
-                hour: line.number[0],
-                unit: line.number[1],
-                to: 0,
-                kwh: line.number[2],
-                begin: 0,
-                end: 0,
-                start: 0,
-            },
-            after,
-        ),
-        Err(fault) => Next::Bad(fault.number()),
+    Asked {
+        kind: 1,
+        hour: line.number[0],
+        unit: line.number[1],
+        to: 0,
+        kwh: line.number[2],
+        begin: 0,
+        end: 0,
+        start: 0,
     }
 }
 
@@ -87,59 +77,61 @@ fn settle_at(text: &[u8], at: usize) -> Asked
     }
 }
 
-// What comes at a place of the text.
-pub fn next_at(text: &[u8], at: usize) -> Next
+// What comes at a place of the text: a call, or none at its end.
+pub fn next_at(text: &[u8], at: usize) -> Result<Option<Next>, TextFault>
     ensures { result ≡ next_at text.now at }
 {
     if text.len() <= at {
-        return Next::Ends;
+        return Ok(None);
     }
     let e = text::find(text, at, b'\n');
     if text.len() <= e {
-        return Next::Bad(4);
+        return Err(TextFault::TextEnds);
     }
     let line = &text[at..e];
     if text::key_is(line, *b"take======") {
-        return take_of(values::read_value(text::value_of(line), take_row()), e + 1);
+        let read = values::read_value(text::value_of(line), take_row())?;
+        return Ok(Some(Next::Take(take_asked(read), e + 1)));
     }
     if text::key_is(line, *b"hour======") {
-        return Next::Settle(settle_at(text, at));
+        return Ok(Some(Next::Settle(settle_at(text, at))));
     }
-    Next::Bad(1)
+    Err(TextFault::NotDue)
 }
 
-fn end_step(ending: u64) -> Step
-    ensures { result ≡ end_step ending }
+// The call that begins at a place of the text, and the place behind it.
+fn step_of(text: &[u8], at: usize, next: Next) -> Step
+    ensures { result ≡ step_of text.now at next }
 {
-    Step {
-        more: false,
-        asked: Asked::default(),
-        after: 0,
-        ending: ending,
+    match next {
+        Next::Take(asked, after) => Step {
+            asked: asked,
+            after: after,
+        },
+        Next::Settle(asked) => Step {
+            asked: asked,
+            after: record_end::behind_record(text, at),
+        },
     }
 }
 
-fn call_step(asked: Asked, after: usize) -> Step
-    ensures { result ≡ call_step asked after }
-{
-    Step {
-        more: true,
-        asked: asked,
-        after: after,
-        ending: 0,
-    }
-}
-
-// The call at a place of the text, or the ending.
-fn step_at(text: &[u8], at: usize) -> Step
+// The call at a place of the text, and the place behind it; or none at its end.
+fn step_at(text: &[u8], at: usize) -> Result<Option<Step>, TextFault>
     ensures { result ≡ step_at text.now at }
 {
-    let next = next_at(text, at);
-    match next {
-        Next::Ends => end_step(0),
-        Next::Bad(number) => end_step(number),
-        Next::Take(asked, after) => call_step(asked, after),
-        Next::Settle(asked) => call_step(asked, record_end::behind_record(text, at)),
+    match next_at(text, at)? {
+        Some(next) => Ok(Some(step_of(text, at, next))),
+        None => Ok(None),
+    }
+}
+
+// How a list ends where no call comes.
+fn ended_by(step: Result<Option<Step>, TextFault>) -> Result<(), TextFault>
+    ensures { result ≡ ended_by step }
+{
+    match step {
+        Ok(_) => Ok(()),
+        Err(fault) => Err(fault),
     }
 }
 
@@ -155,29 +147,28 @@ fn store_call(calls: &mut [u64], i: usize, a: Asked)
     }
 }
 
-fn stores_on(more: bool, n: usize, room: usize) -> bool
-    ensures { result ≡ (more && ltb n room) }
-{
-    more && n < room
-}
-
 // The calls of a text from a place on, in numbers, and the ending. A list with a place for every six bytes of the text has places for all of them.
 pub fn list_calls(text: &[u8], from: usize, calls: &mut [u64]) -> Listed
-    ensures lists { result.all ≡ true → Lists text.now from calls.new result }
+    ensures lists { IfSome result.ending (λ ending. Lists text.now from calls.new result.calls ending) }
     ensures calls_in_bounds { result.calls ≤ length calls.old / call_numbers }
-    ensures all_value { length text.now / line_bytes ≤ length calls.old / call_numbers → result.all ≡ true }
+    ensures all_value { length text.now / line_bytes ≤ length calls.old / call_numbers → is_some result.ending ≡ true }
 {
     let room = calls.len() / 8;
     let mut step = step_at(text, from);
     let mut n: usize = 0;
-    while stores_on(step.more, n, room) {
-        store_call(calls, n, step.asked);
+    while let Ok(Some(call)) = step {
+        if room <= n {
+            return Listed {
+                calls: n,
+                ending: None,
+            };
+        }
+        store_call(calls, n, call.asked);
         n += 1;
-        step = step_at(text, step.after);
+        step = step_at(text, call.after);
     }
     Listed {
         calls: n,
-        ending: step.ending,
-        all: !step.more,
+        ending: Some(ended_by(step)),
     }
 }

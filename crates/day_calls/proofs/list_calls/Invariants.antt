@@ -5,8 +5,8 @@ use Rattle.ledger.specs.Requests.{call_numbers}
 use Rattle.day_calls.proofs.Listing.{Listing}
 use Rattle.day_calls.proofs.list_calls.Given as goal
 
-abbrev pub invariant-loop-calls : goal.invariant-loop-calls
-invariant-loop-calls l = (length l.calls ≡ length l.initial.calls) × (l.n ≤ length l.initial.calls / call_numbers) × Listing l.text l.from l.calls l.n l.step
+abbrev pub invariant-loop-step : goal.invariant-loop-step
+invariant-loop-step l = (length l.calls ≡ length l.initial.calls) × (l.n ≤ length l.initial.calls / call_numbers) × Listing l.text l.from l.calls l.n l.step
 
-abbrev pub decreases-loop-calls : goal.decreases-loop-calls
-decreases-loop-calls l = length l.text - l.n
+abbrev pub decreases-loop-step : goal.decreases-loop-step
+decreases-loop-step l = length l.text - l.n
