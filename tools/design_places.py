@@ -49,11 +49,12 @@ lines::{text_number,text_line}; decisions::{number_of,line_of}; decisions::poste
 2 calls: single::{take,release,move_kwh,settle,restate,void_hour,call}; journal::{take,release,move_kwh,settle,restate,void_hour,call}; \
 {journal,own_journal}::run_on; {journal,own_journal}::total; ledger::Decision single::CallDecision; ledger::{Request,Asked}
 2 a day's calls, read twice: {account,day_calls}::no_call asks::no_asked; {account,day_calls}::settle_at; {account,day_calls}::next_at; \
-account::due_at day_calls::step_at; account::none_due day_calls::end_step; {account,day_calls}::Next; account::{Due,Day} day_calls::Step
+account::none_due day_calls::end_step; {account,day_calls}::Next
 2 lines of a sheet and of a record: {sheet_lines,record_lines}::head_row; {sheet_lines,record_lines}::unit_row; {sheet_lines,record_lines}::row_at; \
 sheet_lines::read_more record_lines::read_lines; sheet_text::read_sheet record_text::read_record; sheet_text::SheetRead record_text::RecordRead; \
 text::{Line,Head}
 no 2 examples that differ in their figures: examples::{example_16,kind_8_split}
+no 2 what a trait asks of each type: energy::{GrossKwh,NetKwh,HubKwh,HubGrains}.{of,amount} {account::DayRefusal,ledger::Refusal}.from
 4 equality or order: text::{key_is,word_is} formulas::in_order exports::length_of
 4 to or from the document's numbers: lines::{text_refusal,text_number,text_line} decisions::{refusal_number,refusal_line,number_of,line_of,posted_of}
 4 a kind decoded by ifs: decisions::decode asks::{kind_of,numbers_of}
@@ -136,8 +137,8 @@ def marks(item, outcomes, lists):
     is_fn, short = item.form == 'fn', re.split('::|[.]', item.name)[-1]
     kinds = {name: re.sub(r'\w+::', '', kind) for name, kind in item.params}
     codes = [name for name, kind in kinds.items() if name in CODES and kind in ('u64', 'usize') or name == 'mark' and 'u64' in kind
-             or (name == 'measured' if is_fn else name in FLAGS) and kind in ('bool', 'u64') or not is_fn and kind in outcomes]
-    if codes or item.name in lists[1] or not is_fn and short in outcomes:
+             or (name == 'measured' if is_fn else name in FLAGS) and kind in (('u64',) if name in ('blank', 'order') else ('bool', 'u64')) or not is_fn and kind in outcomes]
+    if codes or item.name in lists[1] and not item.result.startswith('Option<') or not is_fn and short in outcomes:
         yield 1, item, lists[1].get(item.name, ', '.join(codes) or 'like Option or Result')
     for loop in re.finditer(r'^(?=( *)(while ([^\n]*)|loop) \{\n(.*?)^\1\})', item.body, re.M | re.S):
         tested = '|'.join(re.findall(r'\w+', loop[3] or '-'))  # what is stepped by a number, or is in the test and stepped
