@@ -1,9 +1,10 @@
 -- The turns from a day on are those from the day after its call; where no call is due the turns have ended.
 -- Assumes nothing.
 use Rattle.std.specs.Prelude.{Ok, Err, Some, None}
-use mathlib.Core.Path.{◌≡◌, refl, ap}
+use mathlib.Core.Path.{◌≡◌, refl, ap, ◌∙◌}
 use mathlib.Core.List.{List}
-use Prim.Native.Nat.{ℕ, zero, suc}
+use Prim.Native.Nat.{ℕ, zero, suc, ◌-◌, ◌<◌}
+use native.Mathlib.Omega.{arith}
 use Rattle.sheet.specs.declared.Sheet.{Sheet}
 use Rattle.account.specs.declared.Due.{Due}
 use Rattle.account.specs.Day.{Pending, Running, turned, ran_by, ran_to}
@@ -27,3 +28,12 @@ module _ (sheet : Sheet) (text : List ℕ) where
   unfolding ran_to
   ran_end zero r none = refl
   ran_end (suc k) r none = stays (ran_to sheet text k) r r.day.due none
+
+  -- with the call that is due one fewer is left to come; where none is due the turns have ended
+  pub left_by : (left : ℕ) (r : Running)
+      → ((x : Due) → r.day.due ≡ Ok (Some x) → 0 < left → ran_to sheet text left r ≡ ran_to sheet text (left - 1) (turned sheet text r x))
+      × (NoneDue r.day.due → ran_to sheet text left r ≡ r)
+  left_by left r = (
+    λ x is some. let e : left ≡ suc (left - 1) = omega arith in ap (λ (k : ℕ). ran_to sheet text k r) e ∙ ran_next r x (left - 1) is,
+    ran_end left r,
+  )
