@@ -119,3 +119,12 @@ module _ (text : List ℕ) (due : List Line → Row) where
       let is : k ≡ suc (n + m) = omega arith in
       ap (λ (x : ℕ). read_by text due x s) is
       ∙ ap (λ (z : Result Reading TextRefusal). further z (λ u. read_line text (due u.lines) u)) (by_refused n m (n + m) s r refl e)
+
+  -- lines after lines
+  pub by_after : (n m k : ℕ) (s t : Reading) → k ≡ n + m → read_by text due n s ≡ Ok t → read_by text due k s ≡ read_by text due m t
+  unfolding read_by
+  by_after n zero k s t q e = ap (λ (x : ℕ). read_by text due x s) (q ∙ add-zero n) ∙ e
+  by_after n (suc m) k s t q e =
+      let is : k ≡ suc (n + m) = omega arith in
+      ap (λ (x : ℕ). read_by text due x s) is
+      ∙ ap (λ (z : Result Reading TextRefusal). further z (λ u. read_line text (due u.lines) u)) (by_after n m (n + m) s t refl e)

@@ -13,15 +13,15 @@ use lib.Seq.{get_or_at, get_or-set_same, get_or-set_other}
 use Rattle.std.specs.Prelude.{Result, Ok, Err}
 use Rattle.finite.proofs.Sums.{extend}
 use Rattle.values.proofs.Fits.{Fits, value_fits}
-use Rattle.lines.specs.Refusals.{bad_start, no_start}
+use Rattle.lines.specs.Refusals.{text_number, bad_start, no_start}
 use Rattle.lines.specs.declared.TextRefusal.{TextRefusal}
-use Rattle.text.specs.Text.{seek, before, has, value_part, key_is}
+use Rattle.text.specs.Text.{fault_number, seek, before, has, value_part, key_is}
 use Rattle.text.specs.Rows.{no_line}
 use Rattle.values.specs.Values.{value_of}
 use Rattle.text.specs.declared.Row.{Row}
 use Rattle.text.specs.declared.Line.{Line}
 use Rattle.text.specs.declared.TextFault.{TextFault}
-use Rattle.text.specs.declared.TextFault.TheVariants.{NotDue, TextEnds}
+use Rattle.text.specs.declared.TextFault.TheVariants.{NotDue, BadValue, OfferOrder, TextEnds}
 use Rattle.lines.specs.Lines.{line_by, line_at, line_of}
 use Rattle.lines.specs.Cells.{line_in, Kept}
 
@@ -31,6 +31,9 @@ not_ok f x e = cc
 
 pub same_ok : {A E : Type 0} (x y : A) → ◌≡◌ {A = Result A E} (Ok x) (Ok y) → x ≡ y
 same_ok x y e = cc
+
+pub same_err : {A E : Type 0} (x y : E) → ◌≡◌ {A = Result A E} (Err x) (Err y) → x ≡ y
+same_err x y e = cc
 
 -- the line at a place, whose LF is looked for from there and found at e
 module _ (text : List ℕ) (at : ℕ) (row : Row) (e : ℕ) (he : e ≡ at + seek 10 10 (drop at text)) where
@@ -103,3 +106,13 @@ line_keeps text at row l = by (has 10 (drop at text)) (key_is (before 10 (drop a
     by true true e p m = value_fits row (value_part (before 10 (drop at text))) p m l e
     by true false e p m = absurd (not_ok _ _ e)
     by false u e p m = absurd (not_ok _ _ e)
+
+-- 01, table of refusals, 1 to 4: the number of a text's refusal
+pub refusal_number_lem : (r : TextRefusal) → (1 ≤ text_number r) × (text_number r ≤ 4)
+refusal_number_lem r = by r.fault
+  where
+    by : (f : TextFault) → (1 ≤ fault_number f) × (fault_number f ≤ 4)
+    by NotDue = (omega arith, omega arith)
+    by BadValue = (omega arith, omega arith)
+    by OfferOrder = (omega arith, omega arith)
+    by TextEnds = (omega arith, omega arith)

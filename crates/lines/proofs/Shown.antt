@@ -1,6 +1,6 @@
 -- A loop over the lines due: after i of them the cursor and what is kept show a reading, which one line more carries on or refuses.
 -- Assumes nothing.
-use mathlib.Core.Path.{◌≡◌, refl, ap, sym, ◌∙◌}
+use mathlib.Core.Path.{◌≡◌, refl, ap, sym, ◌∙◌, subst}
 use mathlib.Core.List.{List, []}
 use native.Mathlib.Nat.{not-suc-le-zero}
 use Prim.Native.Nat.{ℕ, ◌+◌, ◌-◌, ◌<◌}
@@ -11,8 +11,8 @@ use Rattle.text.specs.declared.Line.{Line}
 use Rattle.lines.specs.declared.Cursor.{Cursor}
 use Rattle.lines.specs.declared.TextRefusal.{TextRefusal}
 use Rattle.lines.specs.Lines.{Reading, read_line, read_by}
-use Rattle.lines.specs.Cells.{Kept, cursor_of, cursors}
-use Rattle.lines.proofs.Due.{by_next, by_refused}
+use Rattle.lines.specs.Cells.{Kept, Stopped, cursor_of, cursors}
+use Rattle.lines.proofs.Due.{by_next, by_refused, by_after}
 use Rattle.lines.proofs.Cursors.{cursors_ok, cursors_err}
 
 -- where nothing is read yet, whatever is kept holds it
@@ -49,3 +49,30 @@ module _ (text : List ℕ) (due : List Line → Row) (s : Reading) where
     pub shown_refused : (r : TextRefusal) → result ≡ Err r → (n : ℕ) → i < n → read_by text due n s ≡ Err r
     shown_refused r bad n h =
         by_refused text due (i + 1) (n - (i + 1)) n s r (omega arith) (cursors_err (read_by text due (i + 1) s) r (sym bad ∙ told))
+
+    -- the refused line is the next one, and what is kept stays
+    pub shown_stopped : (r : TextRefusal) → result ≡ Err r → (new : List Line) → (r.line ≡ d.lines + 1) × (new ≡ kept) → Stopped text due s r new
+    shown_stopped r bad new e =
+        record {
+          count = i;
+          reading = shown.reading;
+          read = shown.read;
+          next =
+              subst (λ (x : Row). read_line text x shown.reading ≡ Err r) is
+              (cursors_err (read_line text row shown.reading) r (sym bad ∙ cursor shown.reading shown.cursor));
+          line_is = e.0 ∙ ap (λ (x : Cursor). x.lines + 1) shown.cursor;
+          holds = subst (λ (l : List Line). Kept l shown.reading.lines) (sym e.1) shown.holds;
+        }
+
+  -- a reading that was begun before and then refused
+  pub stopped_later : (n : ℕ) (t : Reading) (r : TextRefusal) (kept : List Line) → read_by text due n s ≡ Ok t → Stopped text due t r kept
+      → Stopped text due s r kept
+  stopped_later n t r kept e x =
+      record {
+        count = n + x.count;
+        reading = x.reading;
+        read = by_after text due n x.count (n + x.count) s t refl e ∙ x.read;
+        next = x.next;
+        line_is = x.line_is;
+        holds = x.holds;
+      }

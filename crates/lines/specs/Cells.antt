@@ -1,10 +1,11 @@
 -- How the lines read are kept in a lent list of lines.
-use Rattle.std.specs.Prelude.{ℕ, ◌≡◌, ◌<◌, List, [], length, get_or, Result, Ok, Err}
+use Rattle.std.specs.Prelude.{ℕ, ◌≡◌, ◌<◌, ◌+◌, ◌-◌, List, [], length, get_or, Result, Ok, Err}
+use Rattle.text.specs.declared.Row.{Row}
 use Rattle.text.specs.declared.Line.{Line}
 use Rattle.text.specs.declared.TextFault.{TextFault}
 use Rattle.lines.specs.declared.Cursor.{Cursor}
 use Rattle.lines.specs.declared.TextRefusal.{TextRefusal}
-use Rattle.lines.specs.Lines.{Reading, line_of}
+use Rattle.lines.specs.Lines.{Reading, read_line, read_by, line_of}
 
 -- line k as the list has it
 abbrev pub line_in : List Line → ℕ → Line
@@ -26,3 +27,17 @@ cursors (Err r) = Err r
 abbrev pub ending : ℕ → Result Line TextFault → Result (Line × ℕ) TextFault
 ending next (Ok l) = Ok (l, next)
 ending next (Err f) = Err f
+
+-- how many lines are read before a reading ends: all that were due, or those before the refused one
+abbrev pub lines_before : Result Cursor TextRefusal → ℕ
+lines_before (Ok d) = d.lines
+lines_before (Err r) = r.line - 1
+
+-- a reading that goes on from s and is refused: the list holds the lines before the refused one
+pub record Stopped (text : List ℕ) (due : List Line → Row) (s : Reading) (r : TextRefusal) (kept : List Line) : Type 0 where
+  pub count : ℕ
+  pub reading : Reading
+  pub read : read_by text due count s ≡ Ok reading
+  pub next : read_line text (due reading.lines) reading ≡ Err r
+  pub line_is : r.line ≡ length reading.lines + 1
+  pub holds : Kept kept reading.lines

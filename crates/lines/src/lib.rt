@@ -1,9 +1,9 @@
 // A text read line by line. The reader's state is a cursor by value; the lines read are kept in a lent list of lines.
 #![tactic(auto)]
 
-ghost use Rattle.std.specs.Prelude.{◌≡◌, ◌+◌, ◌^◌, ◌≤◌, ◌<◌, cond, IfOk, Ok, Err};
+ghost use Rattle.std.specs.Prelude.{◌≡◌, ◌≢◌, ℕ, ◌+◌, ◌^◌, ◌≤◌, ◌<◌, cond, IfOk, Ok, Err};
 ghost use Rattle.lines.specs.Lines.{Reading, read_line, line_at, place_after};
-ghost use Rattle.lines.specs.Cells.{Kept, cursor_of, cursors, ending};
+ghost use Rattle.lines.specs.Cells.{line_in, Kept, cursor_of, cursors, ending};
 ghost use Rattle.lines.specs.Refusals.{text_number, bad_start, no_start};
 
 use text::{Line, Row, TextFault};
@@ -73,6 +73,8 @@ pub fn read_line(text: &[u8], row: Row, c: Cursor, kept: &mut [Line]) -> Result<
     ensures cursor { (s : Reading) → c ≡ cursor_of s → result ≡ cursors (read_line text.now row s) }
     ensures kept { (s : Reading) (t : Reading) → c ≡ cursor_of s → Kept kept.old s.lines → read_line text.now row s ≡ Ok t → Kept kept.new t.lines }
     ensures lines_bound_2 { IfOk result (λ d. d.lines ≡ c.lines + 1) }
+    ensures elsewhere { (j : ℕ) → j ≢ c.lines → line_in kept.new j ≡ line_in kept.old j }
+    ensures refused { (r : TextRefusal) → result ≡ Err r → (r.line ≡ c.lines + 1) × (kept.new ≡ kept.old) }
 {
     match line_at(text, c.at, row) {
         Ok((line, at)) => {

@@ -1,10 +1,10 @@
 // The lines of an hour record: the row due at each place, and their reading.
 #![tactic(auto)]
 
-ghost use Rattle.std.specs.Prelude.{◌≡◌, ◌≤◌, ◌<◌, get_or, IfOk, Ok};
-ghost use Rattle.lines.specs.Lines.{Reading};
-ghost use Rattle.lines.specs.Cells.{Kept, cursors};
-ghost use Rattle.record_lines.specs.Rows.{head_rows, unit_rows, spans_row, end_row, row_at, read_lines};
+ghost use Rattle.std.specs.Prelude.{◌≡◌, ℕ, ◌≤◌, ◌<◌, get_or, IfOk, Ok, Err};
+ghost use Rattle.lines.specs.Lines.{Reading, begin};
+ghost use Rattle.lines.specs.Cells.{line_in, Kept, Stopped, cursors, lines_before};
+ghost use Rattle.record_lines.specs.Rows.{head_rows, unit_rows, spans_row, end_row, row_at, due_row, read_lines};
 
 use lines::{Cursor, TextRefusal};
 use text::{Line, Row};
@@ -80,6 +80,8 @@ pub fn read_lines(text: &[u8], n: usize, kept: &mut [Line]) -> Result<Cursor, Te
     ensures cursor { result ≡ cursors (read_lines text.now n) }
     ensures kept { (s : Reading) → read_lines text.now n ≡ Ok s → Kept kept.new s.lines }
     ensures lines_bound { IfOk result (λ d. d.lines < 10000) }
+    ensures refused { (r : TextRefusal) → result ≡ Err r → Stopped text.now (due_row n) begin r kept.new }
+    ensures behind { (k : ℕ) → lines_before result ≤ k → line_in kept.new k ≡ line_in kept.old k }
 {
     let due = 3 + 9 * n + 1;
     let mut c = lines::start();

@@ -12,12 +12,9 @@ use Rattle.energy.specs.declared.GrossKwh.{GrossKwh}
 use Rattle.units.specs.Units.{member_at}
 use Rattle.std.specs.Prelude.{Result, Ok, Err}
 use Rattle.text.specs.declared.Line.{Line}
-use Rattle.text.specs.Text.{fault_number}
-use Rattle.text.specs.declared.TextFault.{TextFault}
 use Rattle.lines.specs.declared.TextRefusal.{TextRefusal}
-use Rattle.text.specs.declared.TextFault.TheVariants.{NotDue, BadValue, OfferOrder, TextEnds}
 use Rattle.lines.specs.Lines.{Reading, line_of}
-use Rattle.lines.proofs.Reading.{start_within}
+use Rattle.lines.proofs.Reading.{start_within, refusal_number_lem}
 use Rattle.lines.specs.Cells.{line_in, Kept}
 use Rattle.lines.specs.Refusals.{text_number, no_start, bad_start, answer_of}
 use Rattle.record_text.specs.Hour.{RecordTold}
@@ -99,12 +96,6 @@ module _ (text : List ℕ) (start units : ℕ) (monthly : List GrossKwh) where
           ap (λ (x : RecordTold). x.read) (start_good e)
           ∙ told (read_lines (drop start text) (ones units)) (sym (ap (λ (x : RecordTold). x.answer) (start_good e)) ∙ h)
 
-number_range : (f : TextFault) → (1 ≤ fault_number f) × (fault_number f ≤ 4)
-number_range NotDue = (omega arith, omega arith)
-number_range BadValue = (omega arith, omega arith)
-number_range OfferOrder = (omega arith, omega arith)
-number_range TextEnds = (omega arith, omega arith)
-
 -- the number of a refusal of a text
 pub refused_number : (r : TextRefusal) → (1 ≤ text_number r) × (text_number r ≤ 4)
-refused_number r = number_range r.fault
+refused_number r = refusal_number_lem r

@@ -1,10 +1,10 @@
 // The lines of a day sheet: the row due at each place, and their reading.
 #![tactic(auto)]
 
-ghost use Rattle.std.specs.Prelude.{◌≡◌, ◌+◌, ◌≤◌, ◌<◌, length, get_or, IfOk, Ok};
+ghost use Rattle.std.specs.Prelude.{◌≡◌, ℕ, ◌+◌, ◌≤◌, ◌<◌, length, get_or, IfOk, Ok, Err};
 ghost use Rattle.std.specs.Int.Count.{ones};
-ghost use Rattle.lines.specs.Lines.{Reading, read_by, number_of};
-ghost use Rattle.lines.specs.Cells.{line_in, Kept, cursor_of, cursors};
+ghost use Rattle.lines.specs.Lines.{Reading, begin, read_by, number_of};
+ghost use Rattle.lines.specs.Cells.{line_in, Kept, Stopped, cursor_of, cursors, lines_before};
 ghost use Rattle.sheet_lines.specs.Rows.{head_rows, unit_rows, offer_row, end_row, row_at, due_row, read_lines};
 
 use lines::{Cursor, TextRefusal};
@@ -89,6 +89,8 @@ fn read_more(text: &[u8], n: usize, c: Cursor, kept: &mut [Line]) -> Result<Curs
     ensures cursor { (s : Reading) → c ≡ cursor_of s → Kept kept.old s.lines → result ≡ cursors (read_by text.now due_row n s) }
     ensures kept { (s : Reading) (t : Reading) → c ≡ cursor_of s → Kept kept.old s.lines → read_by text.now due_row n s ≡ Ok t → Kept kept.new t.lines }
     ensures lines_bound { IfOk result (λ d. d.lines ≡ c.lines + n) }
+    ensures refused { (s : Reading) (r : TextRefusal) → c ≡ cursor_of s → Kept kept.old s.lines → result ≡ Err r → Stopped text.now due_row s r kept.new }
+    ensures behind { (c.lines ≤ lines_before result) × ((k : ℕ) → lines_before result ≤ k → line_in kept.new k ≡ line_in kept.old k) }
 {
     let mut d = c;
     for i in 0..n {
@@ -104,6 +106,8 @@ pub fn read_lines(text: &[u8], kept: &mut [Line]) -> Result<Cursor, TextRefusal>
     ensures cursor { result ≡ cursors (read_lines text.now) }
     ensures kept { (s : Reading) → read_lines text.now ≡ Ok s → Kept kept.new s.lines }
     ensures lines_bound { IfOk result (λ d. d.lines < 10000) }
+    ensures refused { (r : TextRefusal) → result ≡ Err r → Stopped text.now due_row begin r kept.new }
+    ensures behind { (k : ℕ) → lines_before result ≤ k → line_in kept.new k ≡ line_in kept.old k }
 {
     let head = read_more(text, 30, lines::start(), kept)?;
     read_more(text, 27 * units_read(kept) + 1, head, kept)

@@ -1,7 +1,7 @@
 -- The head, and then as many lines as the units it names have.
 -- Assumes nothing.
 use Prim.Native.Nat.{ℕ, ◌+◌, ◌*◌}
-use mathlib.Core.Path.{◌≡◌, refl, ap, sym, ◌∙◌}
+use mathlib.Core.Path.{◌≡◌, refl, ap, sym, ◌∙◌, subst}
 use native.Mathlib.Omega.{arith}
 use lib.Count.{ones}
 use Rattle.std.specs.Prelude.{List, Ok, Err}
@@ -10,11 +10,11 @@ use Rattle.text.specs.declared.Line.{Line}
 use Rattle.lines.specs.declared.Cursor.{Cursor}
 use Rattle.lines.specs.declared.TextRefusal.{TextRefusal}
 use Rattle.lines.specs.Lines.{Reading, begin, read_by, number_of}
-use Rattle.lines.specs.Cells.{Kept, cursors}
-use Rattle.lines.proofs.Reading.{not_ok}
+use Rattle.lines.specs.Cells.{Kept, Stopped, cursors, lines_before}
+use Rattle.lines.proofs.Reading.{not_ok, same_err}
 use Rattle.lines.proofs.Cursors.{Read, cursors_ok, cursors_err}
 use Rattle.lines.proofs.Due.{onward}
-use Rattle.lines.proofs.Shown.{none_kept}
+use Rattle.lines.proofs.Shown.{none_kept, stopped_later}
 use Rattle.sheet_lines.specs.Rows.{due_row, units_read, read_lines}
 use Rattle.sheet_lines.proofs.read_lines.Goals.{After-read_more, In_ok-head}
 use Rattle.sheet_lines.proofs.read_lines.Goals as goal
@@ -37,7 +37,16 @@ pub returns-in_err-head : goal.returns-in_err-head
 returns-in_err-head c =
     let p = err_from_is_err_and c.from_residual.result c.from_residual.ensures.1 in
     let e = bad (goal.at.returns-in_err-head c).After-read_more c.in_err-head.field-0.0 c.in_err-head.was in
-    rw (p.1, p.2) (record { cursor = ap cursors (sym e); kept = λ s h. absurd (not_ok _ _ (sym e ∙ h)); lines_bound = tt })
+    let f = c.in_err-head.field-0.0 in
+    let m = c.read_more in
+    rw (p.1, p.2) (record {
+      cursor = ap cursors (sym e);
+      kept = λ s h. absurd (not_ok _ _ (sym e ∙ h));
+      lines_bound = tt;
+      refused = λ r h. subst (λ (x : TextRefusal). Stopped c.args.text.now due_row begin x m.new.kept) (same_err _ _ h)
+          (m.ensures.refused begin f c.start.ensures (none_kept c.args.kept.now) c.in_err-head.was);
+      behind = λ k h. m.ensures.behind.1 k (let q = ap lines_before c.in_err-head.was in omega (arith, q));
+    })
 
 -- the head, and what is kept of it
 head : (c : In_ok-head) → Read (read_by c.args.text.now due_row 30 begin) c.in_ok-head.head
@@ -62,5 +71,9 @@ returns c =
     record {
       cursor = m.ensures.cursor h.reading h.cursor kept ∙ ap cursors all;
       kept = λ s e. m.ensures.kept h.reading s h.cursor kept (all ∙ e);
+      refused = λ r e. stopped_later t due_row begin 30 h.reading r m.new.kept h.read (m.ensures.refused h.reading r h.cursor kept e);
+      behind = λ k b.
+          let q = ap lines_before c.in_ok-head.was in
+          m.ensures.behind.1 k b ∙ c.read_more.ensures.behind.1 k (omega (arith, q, m.ensures.behind.0));
       lines_bound = IfOk-weaker m.result _ _ (λ d e. omega (arith, e, few, c.units_read.ensures.upper_bound)) m.ensures.lines_bound;
     }
