@@ -156,6 +156,7 @@ pub fn list_calls(text: &[u8], from: usize, calls: &mut [u64]) -> Listed
     let room = calls.len() / 8;
     let mut step = step_at(text, from);
     let mut n: usize = 0;
+    // each call says where the next one begins, so that no `for` counts the place
     while let Ok(Some(call)) = step {
         if room <= n {
             return Listed {
