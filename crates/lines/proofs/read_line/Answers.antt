@@ -64,6 +64,6 @@ returns-in-Err-clause-kept c =
 pub returns-after-c-kept-clause-elsewhere : goal.returns-after-c-kept-clause-elsewhere
 returns-after-c-kept-clause-elsewhere c =
     λ j other. elim c.if-c-kept.branch [
-      | then-c-kept w ↦ rw (w.kept-is) (get_or-set_other c.args.kept.now c.args.c.lines j _ (record { count = 0; number = [] }) other)
+      | then-c-kept w ↦ rw (w.kept-is) (get_or-set_other c.args.kept.now c.args.c.lines j c.in-Ok.line (record { count = 0; number = [] }) other)
       | else-c-kept w ↦ rw (w.kept-is) refl
     ]
