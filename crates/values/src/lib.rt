@@ -28,17 +28,15 @@ fn part_next(parts: usize, p: usize) -> usize
     if p + 1 == parts { 0 } else { p + 1 }
 }
 
-// The line with one number more, kept where there is room for it.
-fn added(line: Line, n: u64) -> Line
-    requires { line.count < 1000 }
-    ensures { result ≡ added line n }
+// One number more in the line, kept where there is room for it.
+fn add(line: &mut Line, n: u64)
+    requires { line.old.count < 1000 }
+    ensures { line.new ≡ added line.old n }
 {
-    let mut more = line;
     if line.count < 24 {
-        more.number[line.count] = n;
+        line.number[line.count] = n;
     }
-    more.count += 1;
-    more
+    line.count += 1;
 }
 
 // The numbers of a value: a group's numbers are joined by ':', groups by ','.
@@ -53,7 +51,7 @@ fn numbers(value: &[u8], row: Row) -> Result<Line, TextFault>
         let part = text::part_at(value, from, element(&row.low, p), element(&row.high, p)).ok_or(
             TextFault::BadValue,
         )?;
-        line = added(line, part.number);
+        add(&mut line, part.number);
         let whole = p + 1 == parts;
         if value.len() <= part.end {
             return if whole {

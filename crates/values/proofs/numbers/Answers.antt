@@ -70,7 +70,7 @@ returns-then-whole c =
     let g = c.args in
     let l = c.loop-k in
     let r = read (goal.at.returns-then-whole c).In_ok-part in
-    ap {B = Result Line TextFault} (λ (x : Line). Ok x) c.added-line.ensures
+    ap {B = Result Line TextFault} (λ (x : Line). Ok x) c.add.ensures
     ∙ (sym (whole g.row.low g.row.high g.row.parts (g.row.most - l.k - 1) l.p (drop l.from g.value.now) l.line _ r.0
     (ended g.value.now l.from _ r.1 c.if-value-part.true) c.if-whole.true)
     ∙ so_far (goal.at.returns-then-whole c).In-loop-k)
@@ -105,9 +105,9 @@ loop-k-preserved c =
     (goes_on v l.from _ q.1 c.if-value-part.false) (m ∙ c.if-value-part-2.false ∙ c.mark_due.ensures) in
     let left : r.most - (l.k + 1) ≡ r.most - l.k - 1 = omega arith in (
       omega arith,
-      omega (arith, l.invariant.1, ap (λ (x : Line). x.count) c.added-line.ensures),
+      omega (arith, l.invariant.1, ap (λ (x : Line). x.count) c.add.ensures),
       omega (arith, l.invariant.2, c.part_next-p.ensures, part_next_le r.parts l.p),
-      (λ i. numbers r.low r.high r.parts (left i) (c.part_next-p.ensures i) (sym (past_mark v l.from _ q.1) i) (c.added-line.ensures i))
+      (λ i. numbers r.low r.high r.parts (left i) (c.part_next-p.ensures i) (sym (past_mark v l.from _ q.1) i) (c.add.ensures i))
           ∙ (sym turn ∙ so_far (goal.at.loop-k-preserved c).In-loop-k),
     )
 
