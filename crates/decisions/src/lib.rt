@@ -2,11 +2,9 @@
 // by what the sheet and the book have of it, and the numbers of answers. The crate `ledger` says what is right.
 #![tactic(auto)]
 
-ghost use Rattle.std.specs.Prelude.{◌≡◌, true, ◌&&◌, ◌||◌, ltb, eqb, ◌+◌, ◌<◌, Ok};
-ghost use Rattle.record_text.specs.Hour.{told};
-ghost use Rattle.record_text.specs.declared.RecordRead.{RecordRead};
+ghost use Rattle.std.specs.Prelude.{◌≡◌, true, ◌&&◌, ◌||◌, [], ◌∷◌, ltb, eqb, ◌+◌, ◌<◌, Ok};
 ghost use Rattle.settlement.specs.Ranges.{HourDue};
-ghost use Rattle.ledger.specs.Calls.{verdict, bad_hour, unknown_units, short_of, book_fits};
+ghost use Rattle.ledger.specs.Calls.{verdict, bad_hour, unknown_units, short_of};
 ghost use Rattle.ledger.specs.Numbers.{number_of, line_of, posted_of};
 ghost use Rattle.ledger.specs.Requests.{part_of, asked_at};
 ghost use Rattle.decisions.specs.Calls.{commitment_call, record_call, decoded, call_start};
@@ -15,12 +13,8 @@ ghost use Rattle.decisions.specs.Hours.{void_decided, standing_row, record_decid
 
 use energy::{Energy, HubKwh};
 use ledger::{Asked, Effect, Refusal};
-use lines::TextRefusal;
-use record::Record;
 use record_text::RecordRead;
 use settlement::HourResult;
-use sheet::Sheet;
-use state::Book;
 use terms::HourSheet;
 
 // The calls that change commitments.
@@ -123,20 +117,22 @@ fn record_call(again: bool, asked: Asked) -> Call
     })
 }
 
-// The one place where the kinds have numbers, which are the C interface's: 1 take, 2 release, 3 move, 4 settle, 5 restate, 6 void. Another number
+// A call by its numbers. The one place where the kinds have numbers, which are the C interface's: 1 take, 2 release, 3 move, 4 settle, 5 restate, 6 void. Another number
 // is a void of hour 0.
-#[tactic(auto, unfolding(crate::specs::Calls::decoded))]
-pub fn decode(asked: Asked) -> Call
-    ensures { result ≡ decoded asked }
-{
-    match asked.kind {
-        1 => commitment_call(CommitmentKind::Take, asked),
-        2 => commitment_call(CommitmentKind::Release, asked),
-        3 => commitment_call(CommitmentKind::Move, asked),
-        4 => record_call(false, asked),
-        5 => record_call(true, asked),
-        6 => Call::Void(asked.hour),
-        _ => Call::Void(0),
+impl From<Asked> for Call {
+    #[tactic(auto, unfolding(crate::specs::Calls::decoded))]
+    fn from(asked: Asked) -> Call
+        ensures { result ≡ decoded asked }
+    {
+        match asked.kind {
+            1 => commitment_call(CommitmentKind::Take, asked),
+            2 => commitment_call(CommitmentKind::Release, asked),
+            3 => commitment_call(CommitmentKind::Move, asked),
+            4 => record_call(false, asked),
+            5 => record_call(true, asked),
+            6 => Call::Void(asked.hour),
+            _ => Call::Void(0),
+        }
     }
 }
 
@@ -323,22 +319,22 @@ fn stands_otherwise(again: bool, settled: bool) -> bool
     if again { !settled } else { settled }
 }
 
-// A record that was read: 31, 40 or 41, 32 33 42.
+// A settle or a restate (`again`) of a record that was read: 31, 40 or 41, 32 33 42.
 #[tactic(auto, unfolding(crate::specs::Hours::record_decided, ledger::specs::Calls::verdict))]
-fn decide_read(
-    day: HourSheet,
-    held: [HubKwh; 8],
+pub fn decide_record(
+    day: &HourSheet,
+    held: &[HubKwh; 8],
     again: bool,
     settled: bool,
-    read: Record,
-    place: u64,
+    r: &RecordRead,
     count: u64,
     places: usize,
 ) -> Result<HourChange, Refusal>
-    requires { HourDue day read held }
-    ensures { result ≡ record_decided day held again settled (record { answer = Ok place; read = read }) count places }
+    requires { HourDue day.now r.now.read held.now }
+    ensures { result ≡ record_decided day.now held.now again settled (record { answer = Ok r.now.place; read = r.now.read }) count places }
 {
     let units = day.units;
+    let read = r.read;
     if !record::minutes_hold(read, units) {
         return Err(Refusal::Minutes);
     }
@@ -348,7 +344,7 @@ fn decide_read(
     if !readings::readings_hold(read, units) {
         return Err(Refusal::Readings);
     }
-    if !settlement::proportions_hold(day, read) {
+    if !settlement::proportions_hold(*day, read) {
         return Err(Refusal::Proportions);
     }
     if short_of(units, count, places) {
@@ -356,28 +352,10 @@ fn decide_read(
     }
     Ok(HourChange {
         hour: read.hour,
-        place,
+        place: r.place,
         settled: true,
-        result: settlement::settle_hour(day, read, held),
+        result: settlement::settle_hour(*day, read, *held),
     })
-}
-
-// A settle or a restate (`again`) by what was read of its text: text 31 40 32 33 42, with 41 in the place of 40 for a restate.
-#[tactic(auto, unfolding(crate::specs::Hours::record_decided, ledger::specs::Calls::verdict))]
-pub fn decide_record(
-    day: HourSheet,
-    held: [HubKwh; 8],
-    again: bool,
-    settled: bool,
-    reading: Result<RecordRead, TextRefusal>,
-    count: u64,
-    places: usize,
-) -> Result<HourChange, Refusal>
-    requires { (r : RecordRead) → reading ≡ Ok r → HourDue day r.read held }
-    ensures { result ≡ record_decided day held again settled (told reading) count places }
-{
-    let r = reading?;
-    decide_read(day, held, again, settled, r.read, r.place, count, places)
 }
 
 // The part of a text from `begin` to before `end`, as far as the text goes.
@@ -389,37 +367,13 @@ pub fn part_of(text: &[u8], begin: u64, end: u64) -> &[u8]
     &text[first as usize..last as usize]
 }
 
-// An answer in numbers: the refusal's or 0, its line, and how many postings were appended.
-pub fn number_of(answer: Result<Effect, Refusal>) -> u64
-    ensures { result ≡ number_of answer }
+// An answer and its text place in four numbers: the refusal's number or 0, its line, how many postings were appended, the text place.
+pub fn reply_of(answer: Result<Effect, Refusal>, place: u64) -> [u64; 4]
+    ensures { result ≡ number_of answer ∷ line_of answer ∷ posted_of answer ∷ place ∷ [] }
 {
     match answer {
-        Ok(_) => 0,
-        Err(refusal) => refusal.number(),
+        Ok(Effect::Committed) => [0, 0, 0, place],
+        Ok(Effect::Posted(n)) => [0, 0, n, place],
+        Err(refusal) => [refusal.number(), refusal.line(), 0, place],
     }
-}
-
-pub fn line_of(answer: Result<Effect, Refusal>) -> u64
-    ensures { result ≡ line_of answer }
-{
-    match answer {
-        Ok(_) => 0,
-        Err(refusal) => refusal.line(),
-    }
-}
-
-pub fn posted_of(answer: Result<Effect, Refusal>) -> u64
-    ensures { result ≡ posted_of answer }
-{
-    match answer {
-        Ok(Effect::Posted(n)) => n,
-        Ok(Effect::Committed) | Err(_) => 0,
-    }
-}
-
-// The rest of 12: the book's ranges, the count's, and the postings'.
-pub fn book_fits(sheet: Sheet, book: Book, count: u64, places: usize, posted: bool) -> bool
-    ensures { result ≡ book_fits sheet book count places posted }
-{
-    state::book_holds(sheet, book) && postings::count_holds(count, places) && posted
 }

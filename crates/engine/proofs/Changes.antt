@@ -1,5 +1,5 @@
--- A take, release or move on the table is what the rows of its call say of the book: where 10 and 11 pass, the places that are read and stored are those
--- of its hour and units, and where they do not, the rest is not looked at.
+-- A take, release or move on the book is what the rows of its call say: where 10 and 11 pass, the entries that are read and stored are those of its hour and
+-- units, and where they do not, the rest is not looked at.
 -- Assumes nothing.
 use Rattle.std.specs.Prelude.{Ok, Err}
 use mathlib.Core.Path.{◌≡◌, refl, sym, ◌∙◌, ap}
@@ -9,29 +9,24 @@ use Prim.Native.Nat.{ℕ, ◌+◌, ◌-◌, ◌/◌, ◌%◌, ◌≤◌, ◌<◌
 use native.Mathlib.Omega.{arith}
 use borrow.Author.Tests.{not-false}
 use lib.Dec.{eqb}
-use lib.IntN.{ℤ}
-use lib.ListN.{length, get_or, set, length-set}
-use lib.Seq.{set-set, get_or-set_same, get_or-set_other}
+use lib.ListN.{length}
+use lib.Seq.{paste-zero, set-set, get_or-set_same, get_or-set_other}
 use Rattle.energy.specs.declared.HubKwh.{HubKwh}
-use Rattle.units.specs.Units.{is_member, member_at}
+use Rattle.units.specs.Units.{is_member}
 use Rattle.units.proofs.Laws.{member}
-use Rattle.offer.specs.declared.Offer.{Offer}
 use Rattle.sheet.specs.declared.Sheet.{Sheet}
-use Rattle.terms.specs.declared.DayTerms.{DayTerms}
-use Rattle.terms.proofs.Taken.{terms_units}
 use Rattle.state.specs.declared.Book.{Book}
-use Rattle.state.specs.Sizes.{hours, places, entries, entry_of}
-use Rattle.state.specs.Book.{settled_mark, commitment_at}
-use Rattle.state.specs.Ranges.{limit_of, limit_at, book_holds}
-use Rattle.state.proofs.Entries.{entry_back}
+use Rattle.state.specs.Sizes.{places, entries, entry_of}
+use Rattle.state.specs.Book.{no_kwh, mark_at, settled_mark, with_commitment}
+use Rattle.state.specs.Ranges.{limit_at, book_holds}
+use Rattle.state.proofs.Entries.{entry_back, entry_hour, entry_place}
 use Rattle.state.proofs.InRange.{book_in_range}
+use Rattle.postings.specs.declared.Posting.{Posting}
 use Rattle.ledger.specs.declared.Refusal.{Refusal}
 use Rattle.ledger.specs.Answers.{Answer, Verdict}
-use Rattle.ledger.specs.Ledger.{Call, take, release, move}
-use Rattle.ledger.specs.Calls.{Row, row, verdict, bad_hour, is_settled, held_kwh, last_kwh, with_held, take_tests, release_tests, move_tests, by_verdict, changed_to, refused_with, request_rows, accepted_in, Decision}
+use Rattle.ledger.specs.Ledger.{take, release, move}
+use Rattle.ledger.specs.Calls.{Row, row, verdict, bad_hour, is_settled, held_kwh, last_kwh, with_held, take_tests, release_tests, move_tests, by_verdict, changed_to, no_plan, refused_with, request_rows, accepted_in}
 use Rattle.ledger.proofs.Passed.{from_known, to_known}
-use Rattle.numbers.specs.Offers.{offer_in}
-use Rattle.numbers.proofs.Packed.{commitment_in, set_commitment}
 use Rattle.decisions.specs.declared.CommitmentKind.{CommitmentKind}
 use Rattle.decisions.specs.declared.CommitmentKind.TheVariants.{Take, Release, Move}
 use Rattle.decisions.specs.declared.CommitmentCall.{CommitmentCall}
@@ -39,8 +34,9 @@ use Rattle.decisions.specs.declared.CommitmentChange.{CommitmentChange}
 use Rattle.decisions.specs.Calls.{commitment_of}
 use Rattle.decisions.specs.Changes.{hour_index, entry_index, take_change, release_change, move_change, change_for, change_of}
 use Rattle.decisions.proofs.Changes.{take_tests_lem, release_tests_lem, move_tests_lem, in_hour, entry_in, entry_lt, Passed, changed_passed}
-use Rattle.engine.specs.Table.{Table, table, book_in, Long, Under, Matches, Carried}
-use Rattle.commitments.specs.Changed.{Changed, changed_by, shifted, verdict_in, changed_in}
+use Rattle.commitments.specs.Changed.{kwh_in, with_kwh, shifted, Changed, changed_by, verdict_in, changed_in}
+use Rattle.engine.specs.Journal.{Performed, done_by}
+use Rattle.engine.specs.Carried.{left, carried}
 
 -- what follows two rows matters only where both pass
 gated : (a b : Bool) (r q : Refusal) (xs ys : List Row) → (a ≡ false → b ≡ false → xs ≡ ys) → verdict (row r a ∷ row q b ∷ xs) ≡ verdict (row r a ∷ row q b ∷ ys)
@@ -49,207 +45,162 @@ gated true b r q xs ys g = refl
 gated false true r q xs ys g = refl
 gated false false r q xs ys g = ap verdict (g refl refl)
 
--- both stores at one place, and at two
-shifted_one : (c : List ℕ) (i out into : ℕ) → i < length c → shifted c i i out into ≡ set c i (get_or c i 0 - out + into)
-shifted_one c i out into l = rw (set-set, get_or-set_same c i (get_or c i 0 - out) 0 l)
+-- two stores of commitments at one entry, and at two
+module _ (b : Book) (i : ℕ) where
+  shifted_one : (out into : ℕ) → i < length b.commitment → shifted b i i out into ≡ with_kwh b i (kwh_in b i - out + into)
+  shifted_one out into l =
+      let n = kwh_in b i - out in
+      ap (λ (k : ℕ). with_kwh (with_kwh b i n) i (k + into)) (ap (λ (x : HubKwh). x.0) (get_or-set_same b.commitment i (record { 0 = n }) no_kwh l)) ∙ rw set-set
 
-shifted_two : (c : List ℕ) (i j out into : ℕ) → (j ≡ i → ⊥) → shifted c i j out into ≡ set (set c i (get_or c i 0 - out)) j (get_or c j 0 + into)
-shifted_two c i j out into d = rw (get_or-set_other c i j (get_or c i 0 - out) 0 d)
+  shifted_two : (j out into : ℕ) → (j ≡ i → ⊥) → shifted b i j out into ≡ with_kwh (with_kwh b i (kwh_in b i - out)) j (kwh_in b j + into)
+  shifted_two j out into d =
+      let n = kwh_in b i - out in
+      ap (λ (k : ℕ). with_kwh (with_kwh b i n) j (k + into)) (ap (λ (x : HubKwh). x.0) (get_or-set_other b.commitment i j (record { 0 = n }) no_kwh d))
 
--- two units of the plant have two places
+-- two units of the plant have two entries
 entries_apart : (h j k : ℕ) → 1 ≤ j → 1 ≤ k → (j ≡ k → ⊥) → entry_of h (k - 1) ≡ entry_of h (j - 1) → ⊥
 entries_apart h j k a b d e = d (omega arith)
 
 -- a change that is tested and stored as its call says
-module _ (terms : DayTerms) (offers : List ℕ) (t : Table) (entry count journal-places : ℕ) (rows : List ℤ) (c' : List ℕ) (a : Answer) (long : Long t) where
-  abbrev book_with : List ℕ → Book
-  book_with c = book_in (table c t.mark t.energy t.amounts)
-
+module _ (s : Sheet) (b b' : Book) (count : ℕ) (l : List Posting) (a : Answer) (long : length b.commitment ≡ entries) (fits : book_holds s b ≡ true) where
   abbrev Is : CommitmentChange → Type 0
-  Is x = ◌≡◌ {A = Changed} (record { commitment = c'; answer = a }) (changed_in t.commitment t.mark offers terms.units x)
+  Is x = ◌≡◌ {A = Changed} (record { book = b'; answer = a }) (changed_in s b x)
 
-  abbrev Leaves : (units : ℕ) → Decision → Type 0
-  Leaves units d = Matches units d entry rows (table c' t.mark t.energy t.amounts) rows (record { answer = a; place = 0; hour = 0 })
-
-  abbrev Carries : Call → Type 0
-  Carries call =
-      Carried terms offers call count journal-places t entry rows (table c' t.mark t.energy t.amounts) rows (record { answer = a; place = 0; hour = 0 })
+  abbrev leaves : Performed
+  leaves = left (record { answer = a; place = 0; count = count }) b' l
 
   -- by the verdict
-  module _ (units from to out into : ℕ) (after : Book) where
-    leaves : (v : Verdict) → ◌≡◌ {A = Changed} (record { commitment = c'; answer = a }) (changed_by v t.commitment from to out into)
-        → (v ≡ Ok tt → book_with (shifted t.commitment from to out into) ≡ after)
-        → Leaves units (by_verdict v (changed_to after count) (refused_with (book_in t) count 0))
-    leaves (Ok tt) e stored =
-        record {
-          book = ap (λ (x : Changed). book_with x.commitment) e ∙ stored refl;
-          answer = ap (λ (x : Changed). x.answer) e;
-          place = refl;
-          posts = λ l. absurd (omega arith);
-          kept = λ j l. refl;
-        }
-    leaves (Err r) e stored =
-        record {
-          book = ap (λ (x : Changed). book_with x.commitment) e;
-          answer = ap (λ (x : Changed). x.answer) e;
-          place = refl;
-          posts = λ l. absurd (omega arith);
-          kept = λ j l. refl;
-        }
+  by_change : (from to out into : ℕ) (after : Book) (v : Verdict) → ◌≡◌ {A = Changed} (record { book = b'; answer = a }) (changed_by v b from to out into)
+      → (v ≡ Ok tt → shifted b from to out into ≡ after)
+      → leaves ≡ done_by l (by_verdict v (changed_to after count) (refused_with b count 0))
+  by_change from to out into after (Ok tt) e stored =
+      λ i. record {
+        outcome = record { answer = (e i).answer; place = 0; count = count; book = (ap (λ (x : Changed). x.book) e ∙ stored refl) i };
+        list = paste-zero l 0 no_plan.row i;
+      }
+  by_change from to out into after (Err r) e stored =
+      λ i. record { outcome = record { answer = (e i).answer; place = 0; count = count; book = (e i).book }; list = paste-zero l 0 no_plan.row i }
 
-  -- what is read of the table and the offers is the book's and the sheet's
-  module _ (s : Sheet) (under : Under s terms offers) (fits : book_holds s (book_in t) ≡ true) where
-    abbrev settled : ℕ → Bool
-    settled hour = eqb (get_or t.mark (hour_index hour) 0) settled_mark
+  -- what is read of the book and the sheet
+  abbrev settled : ℕ → Bool
+  settled hour = eqb (mark_at b (hour_index hour)) settled_mark
 
-    abbrev held : ℕ → ℕ → ℕ
-    held hour unit = get_or t.commitment (entry_index hour unit) 0
+  abbrev held : ℕ → ℕ → ℕ
+  held hour unit = kwh_in b (entry_index hour unit)
 
-    abbrev limit : ℕ → ℕ → ℕ
-    limit k j = (limit_of (member_at s.units k) (offer_in offers j)).0
+  abbrev last : ℕ → ℕ → ℕ
+  last hour unit = (limit_at s (entry_index hour unit / places) (entry_index hour unit % places)).0
 
-    abbrev last : ℕ → ℕ → ℕ
-    last hour unit = limit (entry_index hour unit % places) (entry_index hour unit)
+  -- 12 does not hold
+  held_most : (hour unit : ℕ) → held hour unit ≤ last hour unit
+  held_most hour unit = by (entry_index hour unit) (entry_lt hour unit)
+    where
+      by : (j : ℕ) → j < entries → kwh_in b j ≤ (limit_at s (j / places) (j % places)).0
+      by j l = rw (entry_back j) at ((book_in_range s b fits).commitment (j / places) (j % places) (omega arith) (omega arith))
 
-    units_are : terms.units ≡ s.units
-    units_are = ap (λ (x : DayTerms). x.units) under.terms_are ∙ terms_units s
+  module _ (hour : ℕ) (e : bad_hour hour ≡ false) where
+    settled_at : settled hour ≡ is_settled b hour
+    settled_at = rw (in_hour hour e).0
 
-    module _ (h k : ℕ) (day : h < hours) (l : k < places) where
-      kwh_in_lem : (commitment_at (book_in t) h k).0 ≡ get_or t.commitment (entry_of h k) 0
-      kwh_in_lem = ap (λ (x : HubKwh). x.0) (commitment_in t.commitment t.mark t.energy t.amounts h k day l)
+    module _ (unit : ℕ) (m : is_member s.units unit ≡ true) where
+      held_at : held hour unit ≡ held_kwh b hour unit
+      held_at = rw (entry_in s.units hour unit e m).0
 
-      limit_in : limit k (entry_of h k) ≡ (limit_at s h k).0
-      limit_in = ap (λ (o : Offer). (limit_of (member_at s.units k) o).0) (under.offers_are.entry h k day l)
+      last_at : last hour unit ≡ last_kwh s hour unit
+      last_at =
+          let i = entry_in s.units hour unit e m in
+          ap (λ (j : ℕ). (limit_at s (j / places) (j % places)).0) i.0
+          ∙ (λ j. (limit_at s (entry_hour (hour - 1) (unit - 1) i.1 j) (entry_place (hour - 1) (unit - 1) i.1 j)).0)
 
-      -- 12 does not hold
-      kwh_most : get_or t.commitment (entry_of h k) 0 ≤ limit k (entry_of h k)
-      kwh_most = omega (arith, (book_in_range s (book_in t) fits).commitment h k day l, kwh_in_lem, limit_in)
+      -- a store at the unit's entry
+      stored_at : (c : Book) (kwh : ℕ) → with_kwh c (entry_index hour unit) kwh ≡ with_held c hour unit kwh
+      unfolding with_commitment
+      stored_at c kwh = rw (entry_in s.units hour unit e m).0
 
-    held_most : (hour unit : ℕ) → held hour unit ≤ last hour unit
-    held_most hour unit = by (entry_index hour unit) (entry_lt hour unit)
-      where
-        by : (j : ℕ) → j < entries → get_or t.commitment j 0 ≤ limit (j % places) j
-        by j l = rw (entry_back j) at (kwh_most (j / places) (j % places) (omega arith) (omega arith))
+  -- a change's verdict, what it says where it is passed, and the book after it
+  abbrev Says : CommitmentChange → Type 0
+  Says x = Passed s.units x (settled x.hour) (held x.hour x.from) (held x.hour x.to) (last x.hour x.to)
 
-    module _ (hour : ℕ) (e : bad_hour hour ≡ false) where
-      settled_at : settled hour ≡ is_settled (book_in t) hour
-      settled_at = rw (in_hour hour e).0
+  abbrev book_after : CommitmentChange → Book
+  book_after x = shifted b (entry_index x.hour x.from) (entry_index x.hour x.to) x.out.0 x.into.0
 
-      module _ (unit : ℕ) (m : is_member s.units unit ≡ true) where
-        held_at : held hour unit ≡ held_kwh (book_in t) hour unit
-        held_at = let i = entry_in s.units hour unit e m in rw i.0 (sym (kwh_in_lem (hour - 1) (unit - 1) (in_hour hour e).1 i.1))
+  -- a call with the change's verdict and the book after it
+  change_leaves : (x : CommitmentChange) → Is x → (v : Verdict) (after : Book) → verdict_in s b x ≡ v → (Says x → book_after x ≡ after)
+      → leaves ≡ done_by l (by_verdict v (changed_to after count) (refused_with b count 0))
+  unfolding changed_in
+  change_leaves x e v after v-is stored =
+      by_change (entry_index x.hour x.from) (entry_index x.hour x.to) x.out.0 x.into.0 after v (rw v-is at e)
+      (λ p. stored (changed_passed s.units x (settled x.hour) _ _ _ (v-is ∙ p)))
 
-        last_at : last hour unit ≡ last_kwh s hour unit
-        last_at =
-            let i = entry_in s.units hour unit e m in
-            let p : unit - 1 < places = i.1 in
-            let r : entry_of (hour - 1) (unit - 1) % places ≡ unit - 1 = omega arith in
-            ap (λ (j : ℕ). limit (j % places) j) i.0
-            ∙ (ap (λ (k : ℕ). limit k (entry_of (hour - 1) (unit - 1))) r ∙ limit_in (hour - 1) (unit - 1) (in_hour hour e).1 p)
+  -- the change of one unit's commitment
+  one_after : (x : CommitmentChange) (kwh : ℕ) → Says x → x.to ≡ x.from → held_kwh b x.hour x.from - x.out.0 + x.into.0 ≡ kwh
+      → book_after x ≡ with_held b x.hour x.from kwh
+  one_after x kwh p same sum =
+      let l : entry_index x.hour x.from < length b.commitment = omega (arith, entry_lt x.hour x.from, long) in
+      let n : held x.hour x.from - x.out.0 + x.into.0 ≡ kwh = omega (arith, held_at x.hour p.hour_is x.from p.from_is) in
+      rw (same, shifted_one b (entry_index x.hour x.from) x.out.0 x.into.0 l, n)
+      (stored_at x.hour p.hour_is x.from p.from_is b kwh)
 
-        -- a store at the unit's place
-        stored_at : (c : List ℕ) (kwh : ℕ) → length c ≡ entries → book_with (set c (entry_index hour unit) kwh) ≡ with_held (book_with c) hour unit kwh
-        stored_at c kwh n =
-            let i = entry_in s.units hour unit e m in
-            rw i.0 (set_commitment c t.mark t.energy t.amounts (hour - 1) (unit - 1) kwh n (in_hour hour e).1 i.1)
+  module _ (hour : ℕ) where
+    module _ (unit kwh : ℕ) where
+      take_verdict : verdict_in s b (take_change hour unit kwh)
+          ≡ verdict (take_tests s.units hour unit kwh (is_settled b hour) (held_kwh b hour unit) (last_kwh s hour unit))
+      take_verdict =
+          take_tests_lem s.units hour unit kwh (settled hour) (held hour unit) (last hour unit)
+          ∙ gated _ _ _ _ _ _ (λ e m. let k = not-false (is_member s.units unit) m in
+          rw (settled_at hour e, held_at hour e unit k, last_at hour e unit k))
 
-    -- a change's verdict, what it says where it is passed, and the book after it
-    abbrev verdict_of : CommitmentChange → Verdict
-    verdict_of x = verdict_in t.commitment t.mark offers s.units x
+      release_verdict : verdict_in s b (release_change hour unit kwh)
+          ≡ verdict (release_tests s.units hour unit kwh (is_settled b hour) (held_kwh b hour unit))
+      release_verdict =
+          release_tests_lem s.units hour unit kwh (settled hour) (held hour unit) (last hour unit) (held_most hour unit)
+          ∙ gated _ _ _ _ _ _ (λ e m. rw (settled_at hour e, held_at hour e unit (not-false (is_member s.units unit) m)))
 
-    abbrev Says : CommitmentChange → Type 0
-    Says x = Passed s.units x (settled x.hour) (held x.hour x.from) (held x.hour x.to) (last x.hour x.to)
+    module _ (from to kwh : ℕ) where
+      move_verdict : verdict_in s b (move_change hour from to kwh)
+          ≡ verdict (move_tests s.units hour from to kwh (is_settled b hour) (held_kwh b hour from) (held_kwh b hour to) (last_kwh s hour to))
+      move_verdict =
+          move_tests_lem s.units hour from to kwh (settled hour) (held hour from) (held hour to) (last hour to)
+          ∙ gated _ _ _ _ _ _ (λ e m. let f = from_known s.units from to m in let g = to_known s.units from to m in
+          rw (settled_at hour e, held_at hour e from f, held_at hour e to g, last_at hour e to g))
 
-    abbrev book_after : CommitmentChange → Book
-    book_after x = book_with (shifted t.commitment (entry_index x.hour x.from) (entry_index x.hour x.to) x.out.0 x.into.0)
-
-    -- a call with the change's verdict and the book after it
-    change_leaves : (x : CommitmentChange) → Is x → (v : Verdict) (after : Book) → verdict_of x ≡ v → (Says x → book_after x ≡ after)
-        → Leaves s.units (by_verdict v (changed_to after count) (refused_with (book_in t) count 0))
-    unfolding changed_in
-    change_leaves x e v after v-is stored =
-        leaves s.units (entry_index x.hour x.from) (entry_index x.hour x.to) x.out.0 x.into.0 after v (rw (units_are, v-is) at e)
-        (λ p. stored (changed_passed s.units x (settled x.hour) _ _ _ (v-is ∙ p)))
-
-    -- the change of one unit's commitment
-    one_after : (x : CommitmentChange) (kwh : ℕ) → Says x → x.to ≡ x.from → held_kwh (book_in t) x.hour x.from - x.out.0 + x.into.0 ≡ kwh
-        → book_after x ≡ with_held (book_in t) x.hour x.from kwh
-    one_after x kwh p same sum =
-        let l : entry_index x.hour x.from < length t.commitment = omega (arith, entry_lt x.hour x.from, long.commitment) in
-        let n : held x.hour x.from - x.out.0 + x.into.0 ≡ kwh = omega (arith, held_at x.hour p.hour_is x.from p.from_is) in
-        rw (same, shifted_one t.commitment (entry_index x.hour x.from) x.out.0 x.into.0 l, n)
-        (stored_at x.hour p.hour_is x.from p.from_is t.commitment kwh long.commitment)
-
-    module _ (hour : ℕ) where
-      module _ (unit kwh : ℕ) where
-        take_verdict : verdict_of (take_change hour unit kwh)
-            ≡ verdict (take_tests s.units hour unit kwh (is_settled (book_in t) hour) (held_kwh (book_in t) hour unit) (last_kwh s hour unit))
-        take_verdict =
-            take_tests_lem s.units hour unit kwh (settled hour) (held hour unit) (last hour unit)
-            ∙ gated _ _ _ _ _ _ (λ e m. let k = not-false (is_member s.units unit) m in
-            rw (settled_at hour e, held_at hour e unit k, last_at hour e unit k))
-
-        release_verdict : verdict_of (release_change hour unit kwh)
-            ≡ verdict (release_tests s.units hour unit kwh (is_settled (book_in t) hour) (held_kwh (book_in t) hour unit))
-        release_verdict =
-            release_tests_lem s.units hour unit kwh (settled hour) (held hour unit) (last hour unit) (held_most hour unit)
-            ∙ gated _ _ _ _ _ _ (λ e m. rw (settled_at hour e, held_at hour e unit (not-false (is_member s.units unit) m)))
-
-      module _ (from to kwh : ℕ) where
-        move_verdict : verdict_of (move_change hour from to kwh)
-            ≡ verdict (move_tests s.units hour from to kwh (is_settled (book_in t) hour) (held_kwh (book_in t) hour from) (held_kwh (book_in t) hour to) (last_kwh s hour to))
-        move_verdict =
-            move_tests_lem s.units hour from to kwh (settled hour) (held hour from) (held hour to) (last hour to)
-            ∙ gated _ _ _ _ _ _ (λ e m. let f = from_known s.units from to m in let g = to_known s.units from to m in
-            rw (settled_at hour e, held_at hour e from f, held_at hour e to g, last_at hour e to g))
-
-        move_after : Says (move_change hour from to kwh)
-            → book_after (move_change hour from to kwh)
-            ≡ with_held (with_held (book_in t) hour from (held_kwh (book_in t) hour from - kwh)) hour to (held_kwh (book_in t) hour to + kwh)
-        move_after p =
-            let h = p.hour_is in
-            let f = p.from_is in
-            let g = p.to_is in
-            let i = (entry_in s.units hour from h f).0 in
-            let j = (entry_in s.units hour to h g).0 in
-            let d : entry_index hour to ≡ entry_index hour from → ⊥ =
-            λ e. entries_apart (hour - 1) from to (member s.units from f).least (member s.units to g).least (p.apart refl) (sym j ∙ e ∙ i) in
-            let given : List ℕ = set t.commitment (entry_index hour from) (held hour from - kwh) in
-            let n : length given ≡ entries = length-set t.commitment (entry_index hour from) (held hour from - kwh) ∙ long.commitment in
-            rw (shifted_two t.commitment (entry_index hour from) (entry_index hour to) kwh kwh d)
-            (stored_at hour h to g given (held hour to + kwh) n
-            ∙ rw (stored_at hour h from f t.commitment (held hour from - kwh) long.commitment, held_at hour h from f, held_at hour h to g))
+      move_after : Says (move_change hour from to kwh)
+          → book_after (move_change hour from to kwh)
+          ≡ with_held (with_held b hour from (held_kwh b hour from - kwh)) hour to (held_kwh b hour to + kwh)
+      move_after p =
+          let h = p.hour_is in
+          let f = p.from_is in
+          let g = p.to_is in
+          let i = (entry_in s.units hour from h f).0 in
+          let j = (entry_in s.units hour to h g).0 in
+          let d : entry_index hour to ≡ entry_index hour from → ⊥ =
+          λ e. entries_apart (hour - 1) from to (member s.units from f).least (member s.units to g).least (p.apart refl) (sym j ∙ e ∙ i) in
+          rw (shifted_two b (entry_index hour from) (entry_index hour to) kwh kwh d)
+          (stored_at hour h to g (with_kwh b (entry_index hour from) (held hour from - kwh)) (held hour to + kwh)
+          ∙ rw (stored_at hour h from f b (held hour from - kwh), held_at hour h from f, held_at hour h to g))
 
   -- the three calls
-  take_carried : (hour unit kwh : ℕ) → Is (take_change hour unit kwh) → Carries (take hour unit kwh)
+  take_carried : (hour unit kwh : ℕ) → Is (take_change hour unit kwh) → leaves ≡ carried s b count l (take hour unit kwh)
   unfolding request_rows accepted_in
   take_carried hour unit kwh e =
-      record {
-        matches = λ s u f. change_leaves s u f (take_change hour unit kwh) e _ _ (take_verdict s u f hour unit kwh)
-            (λ p. one_after s u f (take_change hour unit kwh) _ p refl (omega arith));
-      }
+      change_leaves (take_change hour unit kwh) e _ _ (take_verdict hour unit kwh) (λ p. one_after (take_change hour unit kwh) _ p refl (omega arith))
 
-  release_carried : (hour unit kwh : ℕ) → Is (release_change hour unit kwh) → Carries (release hour unit kwh)
+  release_carried : (hour unit kwh : ℕ) → Is (release_change hour unit kwh) → leaves ≡ carried s b count l (release hour unit kwh)
   unfolding request_rows accepted_in
   release_carried hour unit kwh e =
-      record {
-        matches = λ s u f. change_leaves s u f (release_change hour unit kwh) e _ _ (release_verdict s u f hour unit kwh)
-            (λ p. one_after s u f (release_change hour unit kwh) _ p refl (omega arith));
-      }
+      change_leaves (release_change hour unit kwh) e _ _ (release_verdict hour unit kwh) (λ p. one_after (release_change hour unit kwh) _ p refl (omega arith))
 
-  move_carried : (hour from to kwh : ℕ) → Is (move_change hour from to kwh) → Carries (move hour from to kwh)
+  move_carried : (hour from to kwh : ℕ) → Is (move_change hour from to kwh) → leaves ≡ carried s b count l (move hour from to kwh)
   unfolding request_rows accepted_in
   move_carried hour from to kwh e =
-      record {
-        matches = λ s u f. change_leaves s u f (move_change hour from to kwh) e _ _ (move_verdict s u f hour from to kwh) (move_after s u f hour from to kwh);
-      }
+      change_leaves (move_change hour from to kwh) e _ _ (move_verdict hour from to kwh) (move_after hour from to kwh)
 
   -- the call by its kind
-  commitment_by : (k : CommitmentKind) (c : CommitmentCall) → Is (change_for k c) → Carries (commitment_of k c)
+  commitment_by : (k : CommitmentKind) (c : CommitmentCall) → Is (change_for k c) → leaves ≡ carried s b count l (commitment_of k c)
   commitment_by Take c = take_carried c.hour c.unit c.kwh
   commitment_by Release c = release_carried c.hour c.unit c.kwh
   commitment_by Move c = move_carried c.hour c.unit c.to c.kwh
 
-  pub commitment_carried : (c : CommitmentCall) (x : CommitmentChange) → x ≡ change_of c → Is x → Carries (commitment_of c.kind c)
+  pub commitment_carried : (c : CommitmentCall) (x : CommitmentChange) → x ≡ change_of c → Is x → leaves ≡ carried s b count l (commitment_of c.kind c)
   unfolding change_of
   commitment_carried c x e h = commitment_by c.kind c (rw e at h)

@@ -1,223 +1,168 @@
 -- What a settle, restate or void rests on. The book's ranges bound the amounts that stand; the sheet's and the record's bound those of a record that was
--- read; and what is used of the sheet in the record's hour is that of the sheet.
+-- read; and an accepted one passed 42.
 -- Assumes nothing.
 use Rattle.lines.specs.declared.TextRefusal.{TextRefusal}
 use Rattle.std.specs.Prelude.{Result, Ok, Err}
-use mathlib.Core.Path.{◌≡◌, refl, sym, ◌∙◌, ap, subst}
+use mathlib.Core.Path.{◌≡◌, refl, sym, ap, ◌∙◌, subst}
 use mathlib.Core.Bool.{Bool, true, false}
 use mathlib.Core.List.{List}
-use Prim.Native.Nat.{ℕ, ◌+◌, ◌-◌, ◌*◌, ◌/◌, ◌%◌, ◌≤◌, ◌<◌}
+use Prim.Native.Nat.{ℕ, ◌+◌, ◌-◌, ◌≤◌, ◌<◌, min}
 use native.Mathlib.Omega.{arith}
-use borrow.Author.Tests.{le-ltb, ltb-true, ltb-false}
-use lib.Dec.{ltb}
-use lib.IntN.{ℤ, pos, nat_abs}
-use lib.ListN.{length, get_or, get_or-eq_default}
-use Rattle.finite.specs.Finite.{tabulate}
-use Rattle.finite.proofs.Tables.{tabulate_same}
+use borrow.Author.Tests.{ltb-false}
+use lib.ListN.{get_or}
 use Rattle.energy.specs.declared.HubKwh.{HubKwh}
+use Rattle.units.specs.Units.{member_at}
 use Rattle.units.proofs.Laws.{place_lt}
-use Rattle.offer.specs.declared.Offer.{Offer}
+use Rattle.offer.specs.Offer.{last_quantity}
 use Rattle.sheet.specs.declared.Sheet.{Sheet}
 use Rattle.sheet.specs.Ranges.{unit_at, offer_at}
 use Rattle.sheet.proofs.InRange.{in_range_lem}
 use Rattle.record.specs.declared.Record.{Record}
-use Rattle.record_text.specs.Hour.{RecordTold}
-use Rattle.record_text.specs.Hour.{read_record}
+use Rattle.record.specs.Empty.{no_record}
 use Rattle.record.specs.InRange.{InRange}
-use Rattle.settlement.specs.declared.Amounts.{Amounts}
-use Rattle.terms.specs.declared.DayTerms.{DayTerms}
-use Rattle.settlement.specs.declared.HourResult.{HourResult}
+use Rattle.record_text.specs.declared.RecordRead.{RecordRead}
+use Rattle.record_text.specs.Hour.{RecordTold}
 use Rattle.terms.specs.declared.HourSheet.{HourSheet}
-use Rattle.terms.specs.Terms.{hour_offers, hour_terms, hour_sheet}
-use Rattle.settlement.specs.Hour.{hour_result}
-use Rattle.settlement.specs.Ranges.{HourDue, hour_by, proportions_by}
-use Rattle.settlement.proofs.Laws.{amount_most}
-use Rattle.terms.proofs.Taken.{hour_terms_lem, terms_units, terms_monthly}
+use Rattle.terms.specs.Terms.{hour_sheet}
+use Rattle.terms.proofs.Taken.{hour_units}
+use Rattle.settlement.specs.declared.HourResult.{HourResult}
+use Rattle.settlement.specs.Ranges.{HourReady, HourDue, hour_by, proportions_by}
+use Rattle.settlement.proofs.Laws.{ready, amount_most}
 use Rattle.settlement.proofs.Taken.{hour_by_lem}
-use Rattle.state.specs.Sizes.{hours, places, items, entries, entry_of}
-use Rattle.state.specs.Book.{past_amounts, item_of, no_result, hour_commitments}
-use Rattle.state.specs.Ranges.{most_amount, book_holds}
-use Rattle.state.proofs.InRange.{limit_most, book_in_range}
+use Rattle.state.specs.declared.Book.{Book}
+use Rattle.state.specs.Book.{no_kwh, no_result, hour_commitments}
+use Rattle.state.specs.Ranges.{AmountsWithin}
+use Rattle.state.proofs.InRange.{limit_in, book_in_range}
+use Rattle.state.proofs.Kept.{hour_within, none_within}
 use Rattle.state.proofs.Writing.{hour_commitment}
-use Rattle.state.proofs.Empty.{none_amounts, none_amount}
+use Rattle.postings.specs.Plan.{entry_size}
+use Rattle.postings.proofs.Counted.{count_list, count_most}
 use Rattle.ledger.specs.declared.Refusal.{Refusal}
+use Rattle.ledger.specs.declared.Refusal.TheVariants.{Text}
 use Rattle.ledger.specs.Answers.{Verdict}
 use Rattle.ledger.specs.Ledger.{given}
-use Rattle.ledger.specs.Calls.{verdict, record_tests, void_tests}
+use Rattle.ledger.specs.Calls.{verdict, short_of, is_settled, record_tests, void_tests}
 use Rattle.ledger.proofs.Accepted.{given_range}
-use Rattle.ledger.proofs.Settled.{items_length}
-use Rattle.numbers.specs.Offers.{offer_in}
-use Rattle.numbers.specs.Numbers.{hour_items, held_in}
-use Rattle.numbers.proofs.Packed.{amount_in_lem, held_is}
+use Rattle.ledger.proofs.Passed.{hour_in}
+use Rattle.ledger.proofs.Places.{passed}
 use Rattle.decisions.specs.declared.HourChange.{HourChange}
-use Rattle.decisions.specs.Changes.{hour_index}
 use Rattle.decisions.specs.Hours.{hour_changed, change_by, void_decided, standing_row, record_decided}
-use Rattle.decisions.proofs.Changes.{hour_lt}
-use Rattle.engine.specs.Table.{Table, book_in, Long, Under, Ready}
-use Rattle.engine.specs.Stored.{StoreReady}
+use Rattle.engine.specs.Carried.{Ready, ChangeReady, StoreReady, recorded}
 
--- the place of an hour from 1 to 24
-hour_back : (hour : ℕ) → 1 ≤ hour → hour ≤ 24 → (hour_index hour ≡ hour - 1) × (hour_index hour + 1 ≡ hour)
-unfolding hour_index
-hour_back hour low high =
-    let e : hour_index hour ≡ hour - 1 = simp (le-ltb hour 1 low, le-ltb 24 hour high) in
-    (e, omega (arith, e))
+-- an accepted change is the one that was made, where no row holds
+change_made : (v : Verdict) (d x : HourChange) → change_by v d ≡ Ok x → (v ≡ Ok tt) × (d ≡ x)
+change_made (Ok tt) d x e = (refl, cc)
+change_made (Err r) d x e = absurd (let z : ◌≡◌ {A = ℕ} 0 1 = cc in omega arith)
 
--- each amount that stands is within its bound, and past the end there is 0
-module _ (s : Sheet) (t : Table) (long : Long t) (fits : book_holds s (book_in t) ≡ true) where
-  abbrev Within : ℕ → Type 0
-  Within n = nat_abs (get_or t.amounts n (pos 0)) ≤ most_amount
+module _ (s : Sheet) (b : Book) (count room : ℕ) (r : Ready s b count room) where
+  pub mask_most : s.units < 256
+  mask_most = omega (arith, (in_range_lem s r.holds).units_most)
 
-  amount_at_lem : (h k i : ℕ) → h < hours → k < places → i < items → Within (items * entry_of h k + i)
-  amount_at_lem h k i day l m =
-      subst (λ (x : ℤ). nat_abs x ≤ most_amount) (amount_in_lem t.commitment t.mark t.energy t.amounts h k day l i m)
-      ((book_in_range s (book_in t) fits).amount h k i day l m)
+  -- 42 does not hold
+  free_by : short_of s.units count room ≡ false → count + entry_size s.units ≤ room
+  free_by e = omega (arith, ltb-false (min room 100000 - count) (entry_size s.units) e, count_list count room r.counted)
 
-  pub amount_within : (n : ℕ) → Within n
-  amount_within n = by (ltb n (items * entries)) refl
-    where
-      by : (b : Bool) → ltb n (items * entries) ≡ b → Within n
-      by true e =
-          let l : n < items * entries = ltb-true n (items * entries) e in
-          let back : items * entry_of (n / hour_items) (n % hour_items / items) + n % items ≡ n = omega arith in
-          subst Within back (amount_at_lem (n / hour_items) (n % hour_items / items) (n % items) (omega arith) (omega arith) (omega arith))
-      by false e =
-          let past : get_or t.amounts n (pos 0) ≡ pos 0 = get_or-eq_default t.amounts (pos 0) (omega (arith, ltb-false n (items * entries) e)) in
-          subst (λ (x : ℤ). nat_abs x ≤ most_amount) (sym past) (omega arith)
-
--- an hour's amounts within their bound, five for each place
-pub record Bounded (amounts : List Amounts) : Type 0 where
-  pub within : (k i : ℕ) → k < places → i < items → nat_abs (item_of (get_or amounts k past_amounts) i) ≤ most_amount
-  pub five : (k : ℕ) → k < places → length (get_or amounts k past_amounts).item ≡ items
-
-none_bounded : Bounded no_result.amounts
-none_bounded =
-    record {
-      within = λ k i l m. subst (λ (x : ℤ). nat_abs x ≤ most_amount) (sym (none_amount k i l)) (omega arith);
-      five = λ k l. ap (λ (x : Amounts). length x.item) (none_amounts k l);
-    }
-
-due_bounded : (day : HourSheet) (r : Record) (held : List HubKwh) → HourDue day r held → Bounded (hour_by day r held).amounts
-due_bounded day r held due =
-    let s = due.sheet in
-    let e : hour_by day r held ≡ hour_result s r held = ap (λ (x : HourSheet). hour_by x r held) due.is ∙ hour_by_lem s r held in
-    subst (λ (x : HourResult). Bounded x.amounts) (sym e)
-    (record {
-      within = λ k i l m. amount_most s r held due.ready k l i;
-      five = λ k l. items_length s r held k l;
-    })
-
--- those of an accepted change
-accepted_bounded : (v : Verdict) (d : HourChange) → Bounded d.result.amounts → (x : HourChange) → change_by v d ≡ Ok x → Bounded x.result.amounts
-accepted_bounded (Ok tt) d b x e = subst (λ (y : HourChange). Bounded y.result.amounts) (let f : d ≡ x = cc in f) b
-accepted_bounded (Err r) d b x e = absurd (let z : ◌≡◌ {A = ℕ} 0 1 = cc in omega arith)
-
-void_bounded : (units hour : ℕ) (settled : Bool) (count room : ℕ) (x : HourChange) → void_decided units hour settled count room ≡ Ok x → Bounded x.result.amounts
-unfolding void_decided
-void_bounded units hour settled count room = accepted_bounded (verdict (void_tests units hour settled count room)) (hour_changed hour false no_result 0) none_bounded
-
-record_bounded : (day : HourSheet) (held : List HubKwh) (again settled : Bool) (a : Result ℕ TextRefusal) (r : Record) (count room : ℕ)
-    → ((place : ℕ) → a ≡ Ok place → HourDue day r held)
-    → (x : HourChange) → record_decided day held again settled (record { answer = a; read = r }) count room ≡ Ok x → Bounded x.result.amounts
-unfolding record_decided verdict
-record_bounded day held again settled (Ok place) r count room due =
-    accepted_bounded
-    (verdict (record_tests day.units (proportions_by day.units day.own r) r (standing_row again settled) count room))
-    (hour_changed r.hour true (hour_by day r held) place) (due_bounded day r held (due place refl))
-record_bounded day held again settled (Err q) r count room due = λ x e. absurd (let z : ◌≡◌ {A = ℕ} 0 1 = cc in omega arith)
-
--- what storing a change rests on
-module _ {terms : DayTerms} {offers : List ℕ} {t : Table} {rows : List ℤ} {entry count room : ℕ} (ready : Ready terms offers t rows entry count room) where
-  change_ready : (h : ℕ) (d : Result HourChange Refusal) → h < hours → ((x : HourChange) → d ≡ Ok x → Bounded x.result.amounts)
-      → StoreReady t.mark t.energy t.amounts rows entry h d
-  change_ready h d day b =
+  change_ready : (decided : Result HourChange Refusal) → ((d : HourChange) → decided ≡ Ok d → ChangeReady s.units count room d) → StoreReady s.units b count room decided
+  change_ready decided change =
       record {
-        hour_in = day;
-        mark_long = ready.long.mark;
-        energy_long = ready.long.energy;
-        amounts_long = ready.long.amounts;
-        room = ready.room;
-        old = amount_within ready.sheet t ready.long ready.fits;
-        new = λ x e. (b x e).within;
-        five = λ x e. (b x e).five;
+        mask = mask_most;
+        few = count_most count room r.counted;
+        old = λ h day. hour_within s b (book_in_range s b r.fits) h s.units day;
+        change = change;
       }
 
-  pub void_ready : (hour h : ℕ) (settled : Bool) (d : Result HourChange Refusal) → h ≡ hour_index hour → d ≡ void_decided terms.units hour settled count room
-      → StoreReady t.mark t.energy t.amounts rows entry h d
-  void_ready hour h settled d eh ed =
-      change_ready h d (omega (arith, hour_lt hour))
-      (subst (λ (y : Result HourChange Refusal). (x : HourChange) → y ≡ Ok x → Bounded x.result.amounts) (sym ed)
-      (void_bounded terms.units hour settled count room))
+  pub void_ready : (hour : ℕ) (settled : Bool) (decided : Result HourChange Refusal) → decided ≡ void_decided s.units hour settled count room → StoreReady s.units b count room decided
+  unfolding void_decided
+  void_ready hour settled decided e =
+      change_ready decided (λ d is.
+      let made = change_made (verdict (void_tests s.units hour settled count room)) (hour_changed hour false no_result 0) d (sym e ∙ is) in
+      let p10 = passed _ _ made.0 in
+      let p41 = passed _ _ p10.1 in
+      let day = hour_in hour p10.0 in
+      subst (ChangeReady s.units count room) made.1
+      (record { hour_least = day.0; hour_most = day.1; within = none_within s.units; free = free_by (passed _ _ p41.1).0 }))
 
--- what is at hand where a record is decided: what was read, its hour's place, and the hour's commitments, offers and sheet
-pub record HourAt (terms : DayTerms) (offers : List ℕ) (t : Table) (text : List ℕ) (start : ℕ) (reading : RecordTold) (h : ℕ) (held : List HubKwh) (day : HourSheet) : Type 0 where
-  pub reading_is : reading ≡ read_record text start terms.units terms.monthly
-  pub hour_is : h ≡ hour_index reading.read.hour
-  pub held_are : held ≡ held_in t.commitment h
-  pub day_is : day ≡ hour_terms terms (h + 1) (tabulate places (λ k. offer_in offers (entry_of h k)))
+  -- of a record that was read, in its ranges
+  module _ (read : Record) (i : InRange s.units read) where
+    abbrev held : List HubKwh
+    held = hour_commitments b (read.hour - 1)
 
-pub hour_at : {terms : DayTerms} {offers : List ℕ} {t : Table} {text : List ℕ} {start : ℕ} {reading : RecordTold} {h : ℕ} {held : List HubKwh} {offer : List Offer} {day : HourSheet}
-    → reading ≡ read_record text start terms.units terms.monthly → h ≡ hour_index reading.read.hour → held ≡ held_in t.commitment h
-    → offer ≡ tabulate places (λ k. offer_in offers (entry_of h k)) → day ≡ hour_terms terms (h + 1) offer → HourAt terms offers t text start reading h held day
-hour_at {terms = terms} {h = h} er eh ec eo ed = record { reading_is = er; hour_is = eh; held_are = ec; day_is = ed ∙ ap (hour_terms terms (h + 1)) eo }
+    hour_ready : HourReady s read held
+    hour_ready = ready s read held r.holds i committed
+      where
+        committed : (j : ℕ) → member_at s.units j ≡ true → (get_or held j no_kwh).0 ≤ (last_quantity (offer_at (unit_at s.unit j) (read.hour - 1))).0
+        committed j m =
+            let l = place_lt s.units j m in
+            rw (hour_commitment b (read.hour - 1) j l, ← limit_in s (read.hour - 1) j m)
+            ((book_in_range s b r.fits).commitment (read.hour - 1) j (omega (arith, i.hour_least, i.hour_most)) l)
 
-module _ {terms : DayTerms} {offers : List ℕ} {t : Table} {text : List ℕ} {start : ℕ} {reading : RecordTold} {h : ℕ} {held : List HubKwh} {day : HourSheet}
-    (at : HourAt terms offers t text start reading h held day) where
-  pub at_hour : h < hours
-  at_hour = omega (arith, hour_lt reading.read.hour, at.hour_is)
+    hour_due : HourDue (hour_sheet s read.hour) read held
+    hour_due = record { sheet = s; is = refl; ready = hour_ready }
 
-  pub at_held : held ≡ hour_commitments (book_in t) h
-  at_held = at.held_are ∙ held_is t.commitment t.mark t.energy t.amounts h at_hour
+    amounts_within : AmountsWithin s.units (hour_by (hour_sheet s read.hour) read held).amounts
+    amounts_within =
+        subst (λ (x : HourResult). AmountsWithin s.units x.amounts) (sym (hour_by_lem s read held))
+        (λ k m j l. amount_most s read held hour_ready k (place_lt s.units k m) j)
 
-  module _ (s : Sheet) (under : Under s terms offers) where
-    pub at_reading : reading ≡ given s text start
-    at_reading =
-        at.reading_is
-        ∙ (ap (λ (x : DayTerms). read_record text start x.units x.monthly) under.terms_are
-        ∙ (λ i. read_record text start (terms_units s i) (terms_monthly s i)))
+    accepted_ready : (again settled : Bool) (place : ℕ) (d : HourChange)
+        → let day = hour_sheet s read.hour in
+        change_by (verdict (record_tests day.units (proportions_by day.units day.own read) read (standing_row again settled) count room))
+        (hour_changed read.hour true (hour_by day read held) place) ≡ Ok d
+        → ChangeReady s.units count room d
+    accepted_ready again settled place d e =
+        let made = change_made _ _ d e in
+        let p31 = passed _ _ made.0 in
+        let p40 = passed _ _ p31.1 in
+        let p32 = passed _ _ p40.1 in
+        let p33 = passed _ _ p32.1 in
+        let free : short_of s.units count room ≡ false = rw (hour_units s read.hour) at (passed _ _ p33.1).0 in
+        subst (ChangeReady s.units count room) made.1
+        (record { hour_least = i.hour_least; hour_most = i.hour_most; within = amounts_within; free = free_by free })
 
-    pub at_day : day ≡ hour_sheet s (h + 1)
-    at_day =
-        let own : tabulate places (λ k. offer_in offers (entry_of h k)) ≡ hour_offers s h =
-        tabulate_same places _ (λ k. offer_at (unit_at s.unit k) h) (λ k l. under.offers_are.entry h k at_hour l) in
-        let e : h ≡ h + 1 - 1 = omega arith in
-        at.day_is
-        ∙ (ap (λ (x : DayTerms). hour_terms x (h + 1) (tabulate places (λ k. offer_in offers (entry_of h k)))) under.terms_are
-        ∙ hour_terms_lem s (h + 1) _ (own ∙ ap (hour_offers s) e))
+  module _ (text : List ℕ) (start : ℕ) where
+    -- by what was read
+    read_ready : (again settled : Bool) (a : Result ℕ TextRefusal) (read : Record) → ((place : ℕ) → a ≡ Ok place → InRange s.units read)
+        → (d : HourChange)
+        → record_decided (hour_sheet s read.hour) (hour_commitments b (read.hour - 1)) again settled (record { answer = a; read = read }) count room ≡ Ok d
+        → ChangeReady s.units count room d
+    unfolding record_decided verdict
+    read_ready again settled (Ok place) read i d e = accepted_ready read (i place refl) again settled place d e
+    read_ready again settled (Err x) read i d e = absurd (let z : ◌≡◌ {A = ℕ} 0 1 = cc in omega arith)
 
-    module _ (place : ℕ) (read : reading.answer ≡ Ok place) where
-      at_range : InRange s.units reading.read
-      at_range =
-          subst (λ (x : RecordTold). x.answer ≡ Ok place → InRange s.units x.read) (sym at_reading)
-          (given_range s under.holds text start place) read
+    pub record_ready : (again : Bool) (decided : Result HourChange Refusal) → decided ≡ recorded s b again text start count room → StoreReady s.units b count room decided
+    record_ready again decided e =
+        let g = given s text start in
+        change_ready decided (λ d is. read_ready again (is_settled b g.read.hour) g.answer g.read (given_range s r.holds text start) d (sym e ∙ is))
 
-      pub at_place : (h ≡ reading.read.hour - 1) × (h + 1 ≡ reading.read.hour)
-      at_place =
-          let b = hour_back reading.read.hour at_range.hour_least at_range.hour_most in
-          (at.hour_is ∙ b.0, ap (λ (n : ℕ). n + 1) at.hour_is ∙ b.1)
+    -- a text that is refused
+    pub refused_text : (again : Bool) (x : TextRefusal) → ◌≡◌ {A = RecordTold} (record { answer = Err x; read = no_record }) (given s text start)
+        → Err (Text x) ≡ recorded s b again text start count room
+    unfolding record_decided verdict
+    refused_text again x e =
+        subst (λ (g : RecordTold). Err (Text x)
+        ≡ record_decided (hour_sheet s g.read.hour) (hour_commitments b (g.read.hour - 1)) again (is_settled b g.read.hour) g count room) e refl
 
-      at_due : book_holds s (book_in t) ≡ true → HourDue day reading.read held
-      at_due fits =
-          record {
-            sheet = s;
-            is = at_day ∙ ap (hour_sheet s) at_place.1;
-            ready =
-                record {
-                  read = record { sheet_holds = under.holds; in_range = at_range };
-                  committed = λ k m.
-                      let l = place_lt s.units k m in
-                      rw (at_held, hour_commitment (book_in t) h k l)
-                      (omega (arith, (book_in_range s (book_in t) fits).commitment h k at_hour l, limit_most s h k (in_range_lem s under.holds) at_hour l));
-                };
-          }
+    -- the record that was read is due
+    pub record_due : (x : RecordRead) (held' : List HubKwh) (day : HourSheet)
+        → ◌≡◌ {A = RecordTold} (record { answer = Ok x.place; read = x.read }) (given s text start)
+        → held' ≡ hour_commitments b (x.read.hour - 1) → day ≡ hour_sheet s x.read.hour → HourDue day x.read held'
+    record_due x held' day e eheld eday =
+        let i : InRange s.units x.read =
+        subst (λ (z : RecordTold). InRange s.units z.read) (sym e) (given_range s r.holds text start x.place (sym (ap (λ (z : RecordTold). z.answer) e))) in
+        rw (eday, eheld) (hour_due x.read i)
 
-  module _ {rows : List ℤ} {entry count room : ℕ} (ready : Ready terms offers t rows entry count room) where
-    pub record_due : (place : ℕ) → reading.answer ≡ Ok place → HourDue day reading.read held
-    record_due place e = at_due ready.sheet ready.under place e ready.fits
+    -- its hour is one of the day
+    pub record_hour : (x : RecordRead) → ◌≡◌ {A = RecordTold} (record { answer = Ok x.place; read = x.read }) (given s text start) → (1 ≤ x.read.hour) × (x.read.hour ≤ 24)
+    record_hour x e =
+        let i : InRange s.units x.read =
+        subst (λ (z : RecordTold). InRange s.units z.read) (sym e) (given_range s r.holds text start x.place (sym (ap (λ (z : RecordTold). z.answer) e))) in
+        (i.hour_least, i.hour_most)
 
-    pub record_ready : (again settled : Bool) (d : Result HourChange Refusal) → d ≡ record_decided day held again settled reading count room
-        → StoreReady t.mark t.energy t.amounts rows entry h d
-    record_ready again settled d e =
-        change_ready ready h d at_hour
-        (subst (λ (y : Result HourChange Refusal). (x : HourChange) → y ≡ Ok x → Bounded x.result.amounts) (sym e)
-        (record_bounded day held again settled reading.answer reading.read count room record_due))
+    -- what is decided of it by the code is what is recorded
+    pub recorded_by : (again settled : Bool) (x : RecordRead) (held' : List HubKwh) (day : HourSheet)
+        → ◌≡◌ {A = RecordTold} (record { answer = Ok x.place; read = x.read }) (given s text start)
+        → held' ≡ hour_commitments b (x.read.hour - 1) → settled ≡ is_settled b x.read.hour → day ≡ hour_sheet s x.read.hour
+        → record_decided day held' again settled (record { answer = Ok x.place; read = x.read }) count room ≡ recorded s b again text start count room
+    recorded_by again settled x held' day e eheld es eday =
+        (λ i. record_decided (eday i) (eheld i) again (es i) (record { answer = Ok x.place; read = x.read }) count room)
+        ∙ ap (λ (g : RecordTold). record_decided (hour_sheet s g.read.hour) (hour_commitments b (g.read.hour - 1)) again (is_settled b g.read.hour) g count room) e

@@ -1,4 +1,3 @@
 pub mod Changes
-pub mod HourStored
 pub mod HourReady
 pub mod HourDecided

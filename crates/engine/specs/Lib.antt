@@ -1,2 +1,2 @@
-pub mod Table
-pub mod Stored
+pub mod Journal
+pub mod Carried

@@ -1,46 +1,38 @@
-// One engine for every call. A call is carried out over the lent numbers of the book: `carry_out` tests it, stores what it changes, and keeps what it posts
-// in an entry of the rows. A single call and a list of calls both go through it; the functions over the lent journal stand in the crate above.
+// One engine for every call. A call is carried out on the book and the lent list of postings: `carry_out` tests it, stores what it changes, and appends what it
+// posts. A single call and a list of calls both go through it.
 #![tactic(auto)]
 
-ghost use Rattle.std.specs.Prelude.{◌≡◌, List, ℕ};
-ghost use Rattle.record_text.specs.Hour.{told};
-ghost use Rattle.decisions.specs.Calls.{record_of, call_of};
-ghost use Rattle.engine.specs.Table.{table, Ready, Carried};
-ghost use Rattle.engine.specs.Stored.{Stored, StoreReady, hour_answer};
+ghost use Rattle.std.specs.Prelude.{◌≡◌, length};
+ghost use Rattle.decisions.specs.Calls.{call_of};
+ghost use Rattle.engine.specs.Journal.{done_by};
+ghost use Rattle.engine.specs.Carried.{left, carried, Ready, StoreReady, decision_of, recorded};
 
 use decisions::{Call, CommitmentChange, HourChange};
 use ledger::{Effect, Refusal};
-use lines::TextRefusal;
-use record_text::RecordRead;
-use settlement::HourResult;
-use terms::DayTerms;
+use postings::Posting;
+use sheet::Sheet;
+use state::Book;
 
-// What a call carried out answers: the answer and the text place, and the hour of what it posts.
+// What a call answers: the answer, the text place, and the count of the postings after it.
 #[derive(Clone, Copy)]
 pub struct Done {
     pub answer: Result<Effect, Refusal>,
     pub place: u64,
-    pub hour: u64,
+    pub count: u64,
 }
 
-// The book's numbers are lent one by one: in a struct, each of its five references would need a clause in each contract that it stays the same one.
-
-// An accepted settle, restate or void stored in its hour, and the differences of the amounts kept in an entry of the rows. A refused one changes
-// nothing, and its text place is `start`.
+// An accepted settle, restate or void: what its hour's amounts change is posted, and the hour is stored. A refused one changes nothing, and its text place is
+// `start`.
 fn store_hour(
-    mark: &mut [u64],
-    energy: &mut [u64],
-    amounts: &mut [i64],
-    rows: &mut [i64],
-    entry: usize,
+    book: &mut Book,
+    list: &mut [Posting],
+    count: u64,
     units: u64,
-    h: usize,
     decided: Result<HourChange, Refusal>,
     start: u64,
 ) -> Done
-    requires { StoreReady mark.old energy.old amounts.old rows.old entry h decided }
-    ensures value { result ≡ hour_answer units start decided }
-    ensures by_index { (commitment : List ℕ) → Stored units h entry decided (table commitment mark.old energy.old amounts.old) rows.old (table commitment mark.new energy.new amounts.new) rows.new }
+    requires { StoreReady units book.old count (length list.old) decided }
+    ensures { left result book.new list.new ≡ done_by list.old (decision_of units book.old count start decided) }
 {
     let d = match decided {
         Ok(d) => d,
@@ -48,105 +40,75 @@ fn store_hour(
             return Done {
                 answer: Err(refusal),
                 place: start,
-                hour: 0,
+                count,
             };
         }
     };
-    let HourResult {
-        energy: grains,
-        amounts: new,
-    } = d.result;
-    numbers::differ(rows, numbers::HOUR_ITEMS * entry, amounts, h, new);
-    numbers::store_amounts(amounts, h, units, new);
-    numbers::store_energies(energy, h, units, grains);
-    mark[h] = d.settled as u64;
+    let posted = 5 * units::unit_count(units);
+    postings::post_hour(list, count as usize, d.hour, units, book, &d.result.amounts);
+    book.store_hour((d.hour - 1) as usize, d.settled, units, &d.result);
     Done {
-        answer: Ok(Effect::Posted(5 * units::unit_count(units))),
+        answer: Ok(Effect::Posted(posted)),
         place: d.place,
-        hour: d.hour,
+        count: count + posted,
     }
 }
 
-// The hour of a record that was read, 0 where none was.
-fn hour_of(reading: Result<RecordRead, TextRefusal>) -> u64
-    ensures { result ≡ (told reading).read.hour }
-{
-    match reading {
-        Ok(r) => r.read.hour,
-        Err(_) => 0,
-    }
-}
-
-// A settle, or a restate (`again`): the record is read from byte `start` of the text on.
-fn record_hour(
-    commitment: &[u64],
-    mark: &mut [u64],
-    energy: &mut [u64],
-    amounts: &mut [i64],
-    rows: &mut [i64],
-    entry: usize,
-    offers: &[u64],
-    terms: DayTerms,
+// A settle, or a restate (`again`), of the record from byte `start` of the text on: what it comes to, or why it is refused.
+fn record_change(
+    book: &Book,
+    sheet: &Sheet,
     text: &[u8],
     start: u64,
     again: bool,
     count: u64,
     places: usize,
-) -> Done
-    requires { Ready terms offers.now (table commitment.now mark.old energy.old amounts.old) rows.old entry count places }
-    ensures { Carried terms offers.now (record_of again text.now start) count places (table commitment.now mark.old energy.old amounts.old) entry rows.old (table commitment.now mark.new energy.new amounts.new) rows.new result }
+) -> Result<HourChange, Refusal>
+    requires { Ready sheet.now book.now count places }
+    ensures { result ≡ recorded sheet.now book.now again text.now start count places }
 {
-    let units = terms.units;
-    let monthly = terms.monthly;
-    let reading = record_text::read_record(text, start, units, monthly);
-    let h = decisions::hour_index(hour_of(reading));
-    let settled = mark[h] == 1;
-    let held = numbers::held_in(commitment, h);
-    let day = terms::hour_sheet(terms, h as u64 + 1, numbers::offers_in(offers, h));
-    let decided = decisions::decide_record(day, held, again, settled, reading, count, places);
-    store_hour(mark, energy, amounts, rows, entry, units, h, decided, start)
+    let monthly = sheet::monthly_of(sheet);
+    let r = record_text::read_record(text, start, sheet.units, monthly)?;
+    let hour = r.read.hour;
+    let h = (hour - 1) as usize;
+    let held = book.commitments(h);
+    let settled = book.is_settled(h);
+    let day = terms::hour_sheet(sheet, hour);
+    decisions::decide_record(&day, &held, again, settled, &r, count, places)
 }
 
-// One call, on a book that is known to be in its ranges under a sheet that is in its own: it is tested, what it changes is stored, and what it posts goes
-// to an entry of the rows.
+// One call, on a book that is known to be in its ranges under a sheet that is in its own: it is tested, what it changes is stored, and what it posts is appended
+// from the count on.
 pub fn carry_out(
-    commitment: &mut [u64],
-    mark: &mut [u64],
-    energy: &mut [u64],
-    amounts: &mut [i64],
-    rows: &mut [i64],
-    entry: usize,
-    offers: &[u64],
-    terms: DayTerms,
+    book: &mut Book,
+    list: &mut [Posting],
+    count: u64,
+    sheet: &Sheet,
     text: &[u8],
     call: Call,
-    count: u64,
-    places: usize,
 ) -> Done
-    requires { Ready terms offers.now (table commitment.old mark.old energy.old amounts.old) rows.old entry count places }
-    ensures { Carried terms offers.now (call_of text.now call) count places (table commitment.old mark.old energy.old amounts.old) entry rows.old (table commitment.new mark.new energy.new amounts.new) rows.new result }
+    requires { Ready sheet.now book.old count (length list.old) }
+    ensures { left result book.new list.new ≡ carried sheet.now book.old count list.old (call_of text.now call) }
 {
-    let units = terms.units;
+    let units = sheet.units;
     match call {
         Call::Commitment(c) => {
             let change = CommitmentChange::from(c);
             Done {
-                answer: commitments::change(commitment, mark, offers, units, change),
+                answer: commitments::change(book, sheet, change),
                 place: 0,
-                hour: 0,
+                count,
             }
         }
         Call::Record(c) => {
             let part = decisions::part_of(text, c.begin, c.end);
-            record_hour(
-                commitment, mark, energy, amounts, rows, entry, offers, terms, part, c.start,
-                c.again, count, places,
-            )
+            let decided = record_change(book, sheet, part, c.start, c.again, count, list.len());
+            store_hour(book, list, count, units, decided, c.start)
         }
         Call::Void(hour) => {
-            let h = decisions::hour_index(hour);
-            let decided = decisions::decide_void(units, hour, mark[h] == 1, count, places);
-            store_hour(mark, energy, amounts, rows, entry, units, h, decided, 0)
+            let settled = book.is_settled(decisions::hour_index(hour));
+            let decided = decisions::decide_void(units, hour, settled, count, list.len());
+            store_hour(book, list, count, units, decided, 0)
         }
     }
 }

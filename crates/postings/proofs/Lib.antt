@@ -3,5 +3,4 @@ pub mod Counted
 pub mod Totals
 pub mod Scan
 pub mod Posted
-pub mod Places
-pub mod Entries
+pub mod Appended

@@ -30,17 +30,17 @@ module _ (hour k : ℕ) (old new : Amounts) where
 module _ (hour units : ℕ) (old new : List Amounts) where
   -- one place more
   module _ (k : ℕ) where
-    to_in : member_at units k ≡ true
+    pub to_in : member_at units k ≡ true
         → postings_to hour units old new (k + 1)
         ≡ postings_to hour units old new k ++ unit_postings hour k (get_or old k past_amounts) (get_or new k past_amounts)
     unfolding postings_to
     to_in m = rw (add-one, m)
 
-    to_outside : member_at units k ≡ false → postings_to hour units old new (k + 1) ≡ postings_to hour units old new k
+    pub to_outside : member_at units k ≡ false → postings_to hour units old new (k + 1) ≡ postings_to hour units old new k
     unfolding postings_to
     to_outside m = rw (add-one, m) (append-nil (postings_to hour units old new k))
 
-  to_none : postings_to hour units old new 0 ≡ []
+  pub to_none : postings_to hour units old new 0 ≡ []
   unfolding postings_to
   to_none = refl
 

@@ -1,7 +1,7 @@
 -- The postings of one call (01, Book and journal).
 use Rattle.std.specs.Prelude.{ℕ, zero, suc, ◌+◌, ◌*◌, ◌-◌, cond, List, [], ◌++◌, ◌-ℤ◌, length, get_or, replicate}
 use Rattle.finite.specs.Finite.{tabulate}
-use Rattle.units.specs.Units.{member_at}
+use Rattle.units.specs.Units.{member_at, unit_count}
 use Rattle.settlement.specs.declared.Amounts.{Amounts}
 use Rattle.state.specs.Sizes.{places, items}
 use Rattle.state.specs.Book.{past_amounts, item_of}
@@ -16,6 +16,10 @@ posting_of hour k old new i = record { hour = hour; unit = k + 1; item = i + 1; 
 -- "settle, restate and void append five per unit, zeros included, unit then item ascending"
 unfoldable pub unit_postings : ℕ → ℕ → Amounts → Amounts → List Posting
 unit_postings hour k old new = tabulate items (posting_of hour k old new)
+
+-- "five per unit"
+abbrev pub entry_size : ℕ → ℕ
+entry_size units = items * unit_count units
 
 -- those of the plant's units at the first n places; amounts are by place
 unfoldable pub postings_to : ℕ → ℕ → List Amounts → List Amounts → ℕ → List Posting

@@ -1,20 +1,17 @@
-// Postings: the count and the scan of those up to it, and the postings of a batch of calls.
+// Postings: the count and the scan of those up to it, and the postings of a call.
 #![tactic(auto)]
 
-ghost use Rattle.std.specs.Prelude.{◌≡◌, ◌*◌, ◌≤◌, ◌<◌, length};
+ghost use Rattle.std.specs.Prelude.{◌≡◌, ◌+◌, ◌-◌, ◌*◌, ◌≤◌, ◌<◌, length, nat_abs, ◌-ℤ◌};
+ghost use Rattle.std.proofs.Math.Seq.{paste};
 ghost use Rattle.postings.specs.Journal.{no_posting, count_holds, covered_by, is_of, scanned_with, scanned_none};
-ghost use Rattle.postings.specs.Plan.{plan_rows};
-ghost use Rattle.state.specs.Sizes.{places, items};
-ghost use Rattle.postings.specs.Entries.{most_entries, PlacesOf, entry_posting, EntryRows};
+ghost use Rattle.postings.specs.Plan.{entry_size, unit_postings, plan_of};
+ghost use Rattle.state.specs.Sizes.{hours, places, items};
+ghost use Rattle.state.specs.Book.{hour_amounts};
+ghost use Rattle.state.specs.Ranges.{most_amount, ItemsWithin, AmountsWithin};
 
-// How many entries a batch of calls can have: one for each call that posts.
-pub const ENTRIES: usize = 16;
-
-// An entry's amounts, by place and item.
-pub const ENTRY_ITEMS: usize = 40;
-
-// The postings of a batch at most.
-pub const ROWS: usize = 640;
+use settlement::{Amounts, ITEMS};
+use state::Book;
+use std::array;
 
 // An amount posted for a unit's item in an hour, in Rial. Hour, unit and item are counted from 1.
 #[derive(Clone, Copy)]
@@ -87,45 +84,42 @@ pub fn scanned_with(sum: Option<i64>, x: Posting, unit: u64, item: u64) -> Optio
     Some(sum)
 }
 
-// The places of the plant's units, ascending, then 0.
-fn places_of(units: u64) -> [usize; 8]
-    ensures { PlacesOf units result }
+// An amount's new value less its old one.
+fn difference(new: i64, old: i64) -> i64
+    requires { (nat_abs new ≤ most_amount) × (nat_abs old ≤ most_amount) }
+    ensures { result ≡ new -ℤ old }
 {
-    let mut place = [0usize; 8];
-    for p in 0..8 {
-        if units::member_at(units, p) {
-            place[units::block_of(units, p)] = p;
+    new - old
+}
+
+// The five postings of the unit of place k, from a place of the list on: each amount's new value less its old one.
+fn post_unit(list: &mut [Posting], at: usize, hour: u64, k: usize, old: &Amounts, new: &Amounts)
+    requires room { (at + items ≤ length list.old) × (k < places) }
+    requires within { ItemsWithin old.now × ItemsWithin new.now }
+    ensures { list.new ≡ paste list.old at (unit_postings hour k old.now new.now) items }
+{
+    let postings: [Posting; ITEMS] = array::from_fn(|i| Posting {
+        hour,
+        unit: k as u64 + 1,
+        item: i as u64 + 1,
+        amount: difference(new.item[i], old.item[i]),
+    });
+    list[at..at + ITEMS].copy_from_slice(&postings);
+}
+
+// The postings of an hour whose amounts in the book give way to new ones, from a place of the list on: five for each unit of the plant, in order.
+pub fn post_hour(list: &mut [Posting], at: usize, hour: u64, units: u64, book: &Book, new: &[Amounts; 8])
+    requires room { (at + entry_size units ≤ length list.old) × (units < 256) }
+    requires hour_in { (1 ≤ hour) × (hour ≤ hours) }
+    requires within { AmountsWithin units (hour_amounts book.now (hour - 1)) × AmountsWithin units new.now }
+    ensures { list.new ≡ paste list.old at (plan_of hour units (hour_amounts book.now (hour - 1)) new.now).row (entry_size units) }
+{
+    let h = (hour - 1) as usize;
+    let mut next = at;
+    for k in 0..8 {
+        if units::member_at(units, k) {
+            post_unit(list, next, hour, k, &book.amounts[8 * h + k], &new[k]);
+            next += ITEMS;
         }
     }
-    place
-}
-
-// The posting of item i, from 0, of the unit at place p in entry e.
-fn entry_posting(hours: &[u64], amounts: &[i64], e: usize, p: usize, i: usize) -> Posting
-    requires within { (e < most_entries) × (p < places) × (i < items) }
-    requires long { (length hours.now ≡ most_entries) × (length amounts.now ≡ most_entries * plan_rows) }
-    ensures { result ≡ entry_posting hours.now amounts.now e p i }
-{
-    Posting {
-        hour: hours[e],
-        unit: p as u64 + 1,
-        item: i as u64 + 1,
-        amount: amounts[ENTRY_ITEMS * e + 5 * p + i],
-    }
-}
-
-// The postings of the first entries, five a unit, in order: of each unit of the plant and each item the amount that the entry has for it.
-pub fn rows_of(units: u64, hours: &[u64], amounts: &[i64], filled: usize) -> [Posting; ROWS]
-    requires { (units ≤ 255) × (filled ≤ most_entries) × (length hours.now ≡ most_entries) × (length amounts.now ≡ most_entries * plan_rows) }
-    ensures { EntryRows units hours.now amounts.now filled result }
-{
-    let place = places_of(units);
-    let size = 5 * units::unit_count(units) as usize;
-    let n = size * filled;
-    let mut row = [no_posting(); ROWS];
-    for k in 0..n {
-        let w = k % size;
-        row[k] = entry_posting(hours, amounts, k / size, place[w / 5], w % 5);
-    }
-    row
 }

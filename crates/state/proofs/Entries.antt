@@ -3,9 +3,9 @@
 use mathlib.Core.Path.{◌≡◌, refl, sym, ◌∙◌}
 use mathlib.Core.Logic.{◌⊎◌, inl, inr, ⊎_elim}
 use mathlib.Core.Bool.{Bool, true, false, cond, ◌&&◌}
-use mathlib.Core.List.{List}
-use Prim.Native.Nat.{ℕ, ◌+◌, ◌/◌, ◌%◌, ◌<◌}
-use native.Mathlib.Nat.{eq-or-lt_of_le}
+use mathlib.Core.List.{List, [], ◌∷◌}
+use Prim.Native.Nat.{ℕ, zero, suc, ◌+◌, ◌/◌, ◌%◌, ◌<◌}
+use native.Mathlib.Nat.{eq-or-lt_of_le, le_of_suc-le-suc, not-suc-le-zero}
 use native.Mathlib.Omega.{arith}
 use borrow.Author.Tests.{lt-ltb, le-ltb, ltb-true, ltb-false, eq-eqb, ne_eqb, eqb-true, eqb-false}
 use lib.Dec.{ltb, eqb}
@@ -44,6 +44,12 @@ same_or_not a b = by (eqb a b) refl
     by : (t : Bool) → eqb a b ≡ t → (a ≡ b) ⊎ (a ≡ b → ⊥)
     by true e = inl (eqb-true a b e)
     by false e = inr (eqb-false a b e)
+
+-- what is read within a list does not go by what is read past its end
+pub read_within : {A : Type 0} (l : List A) (i : ℕ) (x y : A) → i < length l → get_or l i x ≡ get_or l i y
+read_within [] i x y h = absurd (not-suc-le-zero h)
+read_within (z ∷ l) zero x y h = refl
+read_within (z ∷ l) (suc i) x y h = read_within l i x y (le_of_suc-le-suc h)
 
 module _ {A : Type 0} (none : A) (h units : ℕ) (new old : List A) where
   -- entry j is the new one of a place, in the plant and below n, in hour h, or else the old one

@@ -4,4 +4,4 @@ pub mod Empty
 pub mod Writing
 pub mod InRange
 pub mod Kept
-pub mod Commitments
+pub mod Typed

@@ -1,7 +1,7 @@
 -- 01, refusal 12, the book's part: "commitment above the last offer, or over 0 outside the plant; hour mark neither open nor settled; ..
 -- stored amount beyond ±10^11 ..; stored energy above 8 × 10^10". All 24 hours and eight places are looked at, those of open hours too.
 use Rattle.std.specs.Prelude.{◌≡◌, ℕ, ◌≤◌, ◌<◌, Bool, true, cond, ◌&&◌, ◌||◌, List, leb, eqb, ℤ, nat_abs, get_or}
-use Rattle.finite.specs.Finite.{every, tabulate}
+use Rattle.finite.specs.Finite.{every}
 use Rattle.energy.specs.declared.HubKwh.{HubKwh}
 use Rattle.energy.specs.declared.HubGrains.{HubGrains}
 use Rattle.units.specs.Units.{member_at}
@@ -50,14 +50,6 @@ place_holds member u commitment k =
 
 abbrev pub commitments_hold : ℕ → List UnitSheet → List HubKwh → Bool
 commitments_hold units unit commitment = every places (λ k. place_holds (member_at units k) (unit_at unit k) commitment k)
-
--- the commitments as numbers of kWh
-unfoldable pub kwh_of : List HubKwh → List ℕ
-kwh_of commitment = tabulate entries (λ j. (get_or commitment j no_kwh).0)
-
--- the commitments of place k, as numbers
-abbrev pub kept_to : Bool → UnitSheet → List ℕ → ℕ → Bool
-kept_to member u kwh k = every hours (λ h. leb (get_or kwh (entry_of h k) 0) (limit_of member (offer_at u h)).0)
 
 abbrev pub marks_hold : List ℕ → Bool
 marks_hold mark = every hours (λ h. eqb (get_or mark h 0) open_mark || eqb (get_or mark h 0) settled_mark)

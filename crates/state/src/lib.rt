@@ -1,15 +1,16 @@
 // The book: how it is read and written, and what refusal 12 asks of it. Hours and places are counted from 0 here.
 #![tactic(auto)]
 
-ghost use Rattle.std.specs.Prelude.{◌≡◌, ◌<◌};
+ghost use Rattle.std.specs.Prelude.{◌≡◌, ◌<◌, cond, eqb};
 ghost use Rattle.state.specs.Sizes.{hours, places};
-ghost use Rattle.state.specs.Book.{commitment_at, mark_at, energy_at, amounts_at, empty_book, no_result};
-ghost use Rattle.state.specs.Ranges.{within as is_within, limit_of, place_holds, kwh_of, commitments_hold, marks_hold, energies_hold, items_hold, amounts_hold, book_holds};
+ghost use Rattle.state.specs.Book.{Sized, mark_at, hour_commitments, open_mark, settled_mark, stored, with_hour, empty_book, no_result};
+ghost use Rattle.state.specs.Ranges.{within as is_within, limit_of, place_holds, commitments_hold, marks_hold, energies_hold, items_hold, amounts_hold, book_holds};
 
 use energy::{HubGrains, HubKwh};
 use offer::Offer;
 use settlement::{Amounts, HourResult};
 use sheet::{Sheet, UnitSheet};
+use std::array;
 
 // A stored energy and a stored amount at most, the amount in either direction.
 const MOST_ENERGY: HubGrains = HubGrains(80000000000);
@@ -50,32 +51,51 @@ pub fn no_result() -> HourResult
     }
 }
 
-pub fn commitment_at(book: Book, h: usize, k: usize) -> HubKwh
-    requires { (h < hours) × (k < places) }
-    ensures { result ≡ commitment_at book h k }
-{
-    book.commitment[8 * h + k]
-}
-
-pub fn mark_at(book: Book, h: usize) -> u64
+// The entries of the plant's units in hour h give way to the new ones, by place; all others stay.
+fn store<T: Copy>(all: &mut [T; 192], h: usize, units: u64, new: &[T; 8])
     requires { h < hours }
-    ensures { result ≡ mark_at book h }
+    ensures { (none : T) → all.new ≡ stored none h units new.now all.old }
 {
-    book.mark[h]
+    for k in 0..8 {
+        if units::member_at(units, k) {
+            all[8 * h + k] = new[k];
+        }
+    }
 }
 
-pub fn energy_at(book: Book, h: usize, k: usize) -> HubGrains
-    requires { (h < hours) × (k < places) }
-    ensures { result ≡ energy_at book h k }
-{
-    book.energy[8 * h + k]
+impl Book {
+    // Whether an hour stands settled.
+    pub fn is_settled(&self, h: usize) -> bool
+        requires { h < hours }
+        ensures { result ≡ eqb (mark_at self.now h) settled_mark }
+    {
+        self.mark[h] == 1
+    }
+
+    // An hour's commitments, by place.
+    pub fn commitments(&self, h: usize) -> [HubKwh; 8]
+        requires { h < hours }
+        ensures { result ≡ hour_commitments self.now h }
+    {
+        array::from_fn(|k| self.commitment[8 * h + k])
+    }
+
+    // An hour settled, or open again: its mark, and its units' energies and amounts.
+    pub fn store_hour(&mut self, h: usize, settled: bool, units: u64, new: &HourResult)
+        requires { h < hours }
+        ensures { self.new ≡ with_hour self.old h (cond settled settled_mark open_mark) units new.now }
+    {
+        store(&mut self.energy, h, units, &new.energy);
+        store(&mut self.amounts, h, units, &new.amounts);
+        self.mark[h] = settled as u64;
+    }
 }
 
-pub fn amounts_at(book: Book, h: usize, k: usize) -> Amounts
-    requires { (h < hours) × (k < places) }
-    ensures { result ≡ amounts_at book h k }
+// A book has as many entries as its type says.
+pub fn is_sized(book: Book) -> bool
+    ensures { Sized book }
 {
-    book.amounts[8 * h + k]
+    true
 }
 
 // Whether an amount lies between -most and most.
@@ -95,13 +115,6 @@ pub fn limit_of(member: bool, offer: Offer) -> HubKwh
     } else {
         HubKwh(0)
     }
-}
-
-// The commitments as numbers.
-pub fn kwh_of(commitment: [HubKwh; 192]) -> [u64; 192]
-    ensures { result ≡ kwh_of commitment }
-{
-    commitment.map(|kwh| kwh.0)
 }
 
 // Whether no commitment of place k exceeds its limit. An offer is looked at only where there is a commitment: 0 exceeds nothing.
@@ -155,10 +168,10 @@ fn amounts_hold(amounts: &[Amounts; 192]) -> bool
 
 // Whether the book keeps its ranges: refusal 12 where it does not.
 #[tactic(auto, unfolding(crate::specs::Ranges::book_holds))]
-pub fn book_holds(sheet: Sheet, book: Book) -> bool
-    ensures { result ≡ book_holds sheet book }
+pub fn book_holds(sheet: &Sheet, book: &Book) -> bool
+    ensures { result ≡ book_holds sheet.now book.now }
 {
-    commitments_hold(&sheet, &book.commitment)
+    commitments_hold(sheet, &book.commitment)
         && marks_hold(&book.mark)
         && energies_hold(&book.energy)
         && amounts_hold(&book.amounts)

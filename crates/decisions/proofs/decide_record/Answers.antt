@@ -3,9 +3,9 @@
 use mathlib.Core.Path.{ap, ◌∙◌}
 use Rattle.terms.specs.declared.HourSheet.{HourSheet}
 use Rattle.terms.proofs.Taken.{hour_units}
-use Rattle.decisions.proofs.decide_read.Goals as goal
+use Rattle.decisions.proofs.decide_record.Goals as goal
 
 pub readings_hold-requires : goal.readings_hold-requires
 readings_hold-requires c =
     let due = c.requires in
-    rw (ap (λ (x : HourSheet). x.units) due.is ∙ hour_units due.sheet c.args.read.hour) due.ready.read.in_range
+    rw (ap (λ (x : HourSheet). x.units) due.is ∙ hour_units due.sheet c.args.r.now.read.hour) due.ready.read.in_range

@@ -1,0 +1,46 @@
+-- A record that was read has an hour of the day, and is due with what the sheet and the book have of it; a text that is refused refuses the call.
+-- Assumes nothing.
+use Rattle.std.proofs.Common.{◌≡◌, ap, ◌∙◌, arith}
+use Rattle.std.specs.Prelude.{Ok}
+use Rattle.std.proofs.lemmas.Result.{err_from_is_err_and}
+use Rattle.record_text.specs.Hour.{RecordTold, read_record}
+use Rattle.ledger.specs.Ledger.{given}
+use Rattle.engine.proofs.HourReady.{refused_text, record_due, record_hour, recorded_by}
+use Rattle.engine.proofs.record_change.Goals.{In_ok-r}
+use Rattle.engine.proofs.record_change.Goals as goal
+
+-- the record is the one that the call is given
+read : (c : In_ok-r) → ◌≡◌ {A = RecordTold} (record { answer = Ok c.in_ok-r.r.place; read = c.in_ok-r.r.read }) (given c.args.sheet.now c.args.text.now c.args.start)
+read c = c.in_ok-r.ensures ∙ ap (read_record c.args.text.now c.args.start c.args.sheet.now.units) c.monthly_of-monthly.ensures
+
+pub returns-in_err-r : goal.returns-in_err-r
+returns-in_err-r c =
+    let a = c.args in
+    let p = err_from_is_err_and c.from_residual.result c.from_residual.ensures.1 in
+    rw (p.1, p.2)
+    (refused_text a.sheet.now a.book.now a.count a.places c.requires a.text.now a.start a.again _
+    (c.in_err-r.ensures ∙ ap (read_record a.text.now a.start a.sheet.now.units) c.monthly_of-monthly.ensures))
+
+pub overflow_sub-h : goal.overflow_sub-h
+overflow_sub-h c = let a = c.args in (record_hour a.sheet.now a.book.now a.count a.places c.requires a.text.now a.start _ (read c)).0
+
+pub commitments-held-requires : goal.commitments-held-requires
+commitments-held-requires c = let a = c.args in omega (arith, record_hour a.sheet.now a.book.now a.count a.places c.requires a.text.now a.start _ (read (goal.at.commitments-held-requires c).In_ok-r))
+
+pub is_settled-settled-requires : goal.is_settled-settled-requires
+is_settled-settled-requires c = let a = c.args in omega (arith, record_hour a.sheet.now a.book.now a.count a.places c.requires a.text.now a.start _ (read (goal.at.is_settled-settled-requires c).In_ok-r))
+
+pub hour_sheet-day-requires : goal.hour_sheet-day-requires
+hour_sheet-day-requires c = let a = c.args in record_hour a.sheet.now a.book.now a.count a.places c.requires a.text.now a.start _ (read (goal.at.hour_sheet-day-requires c).In_ok-r)
+
+pub decide_record-requires : goal.decide_record-requires
+decide_record-requires c =
+    let a = c.args in
+    record_due a.sheet.now a.book.now a.count a.places c.requires a.text.now a.start _ _ _ (read (goal.at.decide_record-requires c).In_ok-r) c.commitments-held.ensures c.hour_sheet-day.ensures
+
+pub returns : goal.returns
+returns c =
+    let a = c.args in
+    c.decide_record.ensures
+    ∙ recorded_by a.sheet.now a.book.now a.count a.places c.requires a.text.now a.start a.again _ _ _ _ (read (goal.at.returns c).In_ok-r) c.commitments-held.ensures
+    c.is_settled-settled.ensures c.hour_sheet-day.ensures
