@@ -13,7 +13,7 @@ use Rattle.ledger.specs.Numbers.{reply_of}
 use Rattle.ledger.specs.Calls.{Ran, carried_out, ran_from}
 use Rattle.ledger.specs.Demand.{Demand}
 use Rattle.ledger.proofs.Promise.{promise}
-use Rattle.single.specs.Journal.{performed}
+use Rattle.engine.specs.Journal.{performed}
 use Rattle.journal.specs.Folded.{state_left, folded}
 
 -- from any list, count and book

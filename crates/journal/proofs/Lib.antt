@@ -1,6 +1,7 @@
-pub mod Posted
+pub mod Scanned
+pub mod Passing
+pub mod Turning
+pub mod Replies
 pub mod Listed
-pub mod Stood
 pub mod Folded
-pub mod Parts
 pub mod WholeText

@@ -11,6 +11,7 @@ use lib.Seq.{get_or-set_same, get_or-set_other}
 use Rattle.finite.specs.Finite.{tabulate}
 use Rattle.finite.proofs.Tables.{tabulate_same}
 use Rattle.sheet.specs.declared.Sheet.{Sheet}
+use Rattle.state.specs.Book.{empty_book}
 use Rattle.postings.specs.declared.Posting.{Posting}
 use Rattle.ledger.specs.declared.Outcome.{Outcome}
 use Rattle.ledger.specs.Ledger.{Reply}
@@ -20,10 +21,9 @@ use Rattle.ledger.specs.Calls.{State, Ran, carried_out, request_of, ran_from, be
 use Rattle.ledger.specs.Demand.{Demand}
 use Rattle.ledger.proofs.Onward.{further, ran_further}
 use Rattle.ledger.proofs.Promise.{promise}
-use Rattle.single.specs.Journal.{performed}
-use Rattle.batch.specs.Run.{Running, start_ran, answered, reply_in, replies_in, turns_of, state_of, performed_at, turned, ran_all}
-use Rattle.batch.proofs.Along.{turn_state}
-use Rattle.batch.proofs.Replies.{length_answers, reply_is}
+use Rattle.engine.specs.Journal.{performed}
+use Rattle.journal.specs.Run.{Running, start_on, answered, reply_in, replies_in, turns_of, state_of, performed_at, turned, ran_all}
+use Rattle.journal.proofs.Replies.{length_answers, reply_is}
 
 -- four numbers stored from a place on, read back; earlier places keep theirs
 module _ (l : List ℕ) (p a b c d : ℕ) where
@@ -94,9 +94,15 @@ module _ (l : List ℕ) (k : ℕ) (o : Outcome) (h : k < length l / 4) where
       ap (λ (m : List ℕ). reply_in m j) stored
       ∙ (λ i. record { number = w (4 * j) (omega arith) i; line = w (4 * j + 1) (omega arith) i; posted = w (4 * j + 2) (omega arith) i; place = w (4 * j + 3) (omega arith) i })
 
+-- one turn is one call carried out
+pub turn_state : (sheet : Sheet) (calls text : List ℕ) (s : Running) (k : ℕ)
+    → state_of (turned sheet calls text s k) ≡ (carried_out sheet (state_of s) (request_of sheet (call_at calls text k))).state
+unfolding turned performed carried_out
+turn_state sheet calls text s k = refl
+
 module _ (sheet : Sheet) (calls text : List ℕ) (journal : List Posting) (answers : List ℕ) where
   abbrev begin : Running
-  begin = record { list = journal; answers = answers; ran = start_ran }
+  begin = start_on journal answers 0 empty_book
 
   abbrev ran_to : ℕ → Running
   ran_to k = ran_all sheet calls text begin k

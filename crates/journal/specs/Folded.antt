@@ -6,7 +6,7 @@ use Rattle.postings.specs.declared.Posting.{Posting}
 use Rattle.ledger.specs.Ledger.{Call, Reply}
 use Rattle.ledger.specs.Numbers.{reply_of}
 use Rattle.ledger.specs.Calls.{State}
-use Rattle.single.specs.Journal.{performed}
+use Rattle.engine.specs.Journal.{performed}
 
 -- the replies, and the list, the count and the book that the last call leaves
 pub record Folded : Type 0 where

@@ -1,269 +1,266 @@
-// The calls over the lent journal, a list of postings and a count of them. What a call comes to is decided in the crates `single` and `series`; here the
-// postings are looked at and appended.
+// The calls over the accounts of a plant's day: its sheet, the book, and the journal, which is a lent list of postings and a count of them. The named calls are
+// thin functions over `perform`; a list of calls in numbers is carried out by `run_on`.
 #![tactic(auto)]
 
-ghost use Rattle.std.specs.Prelude.{◌≡◌, ◌≤◌, ◌-◌, length};
-ghost use Rattle.state.specs.Book.{empty_book};
+ghost use Rattle.std.specs.Prelude.{◌≡◌, length};
+ghost use Rattle.state.specs.Book.{Sized, empty_book};
+ghost use Rattle.postings.specs.Journal.{scanned};
 ghost use Rattle.ledger.specs.Ledger.{take as take_call, release as release_call, move as move_call, settle as settle_call, restate as restate_call, void as void_call};
-ghost use Rattle.ledger.specs.Total.{total_on};
+ghost use Rattle.ledger.specs.Total.{item_of, total_on};
 ghost use Rattle.ledger.specs.Requests.{call_for, calls_in};
 ghost use Rattle.ledger.specs.Demand.{Demand};
-ghost use Rattle.single.specs.Journal.{scanned_in, posted, performed};
+ghost use Rattle.engine.specs.Journal.{scanned_in};
 ghost use Rattle.decisions.specs.Calls.{call_of, commitment_of};
-ghost use Rattle.batch.specs.Run.{turns_of, replies_in, ran_all};
-ghost use Rattle.series.specs.Stands.{start_on, Due};
-ghost use Rattle.journal.specs.Leaves.{Leaves};
+ghost use Rattle.journal.specs.Accounts.{state_in, passes, tested, Known, Performs, Same};
+ghost use Rattle.journal.specs.Run.{turns_of, stored_answer, replies_in, ran_all, running, start_on};
 
-use batch::Ran;
 use decisions::{Call, CommitmentCall, CommitmentKind, RecordCall};
-use ledger::{Asked, Outcome, Refusal};
-use postings::{Posting, ROWS};
-use series::Stand;
+use engine::Done;
+use ledger::{Asked, Refusal};
+use postings::Posting;
 use sheet::Sheet;
 use state::Book;
 
-// The postings up to the count are looked at, and those of a unit and item added: `None` where one of them is out of its range.
-fn scan(list: &[Posting], count: u64, unit: u64, item: u64) -> Option<i64>
-    ensures { result ≡ scanned_in list.now count unit item }
+// The accounts of a plant's day. Postings are appended to the lent list from the count on.
+#[derive(Drop)]
+pub struct Accounts<'a> {
+    pub sheet: &'a Sheet,
+    pub book: Book,
+    pub list: &'a mut [Posting],
+    pub count: u64,
+}
+
+// What a list of calls leaves beside its answers and the list of postings.
+#[derive(Clone, Copy)]
+pub struct Ran {
+    pub book: Book,
+    pub count: u64,
+}
+
+// What the postings of a unit and an item add up to: `None` where a posting, of whatever unit, is out of its range.
+fn scan(list: &[Posting], unit: u64, item: u64) -> Option<i64>
+    ensures { result ≡ scanned unit item list.now }
 {
-    let n = postings::covered(count, list.len());
     let mut sum = postings::scanned_none();
-    for x in &list[..n] {
+    for x in list {
         sum = postings::scanned_with(sum, *x, unit, item);
     }
     sum
 }
 
-// The first n rows go to the places from `at` on.
-fn append(list: &mut [Posting], at: usize, rows: &[Posting; ROWS], n: usize)
-    requires { (n ≤ 640) × (n ≤ length list.old - at) }
-    ensures { list.new ≡ posted list.old at rows.now n }
-{
-    if n > 0 {
-        list[at..at + n].copy_from_slice(&rows[..n]);
+impl Accounts<'_> {
+    // The sum of the postings up to the count of a unit and an item.
+    fn sum_of(&self, unit: u64, item: u64) -> Option<i64>
+        ensures { result ≡ scanned_in self.now.list.now self.now.count unit item }
+    {
+        let n = postings::covered(self.count, self.list.len());
+        scan(&self.list[..n], unit, item)
+    }
+
+    // 9, then 12; where neither holds, that sum.
+    fn tested(&self, unit: u64, item: u64) -> Result<i64, Refusal>
+        ensures { result ≡ tested self.now.sheet.now (state_in self.now) unit item }
+    {
+        if !sheet::sheet_holds(self.sheet) {
+            return Err(Refusal::SheetRange);
+        }
+        if !state::book_holds(self.sheet, &self.book) {
+            return Err(Refusal::BookRange);
+        }
+        if !postings::count_holds(self.count, self.list.len()) {
+            return Err(Refusal::BookRange);
+        }
+        self.sum_of(unit, item).ok_or(Refusal::BookRange)
+    }
+
+    // Whether 9 or 12 refuses every call.
+    fn passes(&self) -> Result<(), Refusal>
+        ensures { result ≡ passes self.now.sheet.now (state_in self.now) }
+    {
+        self.tested(0, 0)?;
+        Ok(())
+    }
+
+    // A call of which it is known whether 9 or 12 refuses it; where neither does, it is carried out.
+    fn answer(&mut self, passes: Result<(), Refusal>, text: &[u8], call: Call) -> Done
+        requires { Known self.old passes }
+        ensures { Performs self.old (call_of text.now call) self.new result }
+    {
+        if let Err(refusal) = passes {
+            return Done {
+                answer: Err(refusal),
+                place: decisions::start_of(call),
+                count: self.count,
+            };
+        }
+        let done = engine::carry_out(
+            &mut self.book,
+            self.list,
+            self.count,
+            self.sheet,
+            text,
+            call,
+        );
+        self.count = done.count;
+        done
+    }
+
+    // A call.
+    fn perform(&mut self, text: &[u8], call: Call) -> Done
+        ensures { Performs self.old (call_of text.now call) self.new result }
+    {
+        state::is_sized(self.book);
+        let known = self.passes();
+        self.answer(known, text, call)
+    }
+
+    // A take, release or move, which has no text.
+    fn commit(&mut self, call: CommitmentCall) -> Done
+        ensures { Performs self.old (commitment_of call.kind call) self.new result }
+    {
+        self.perform(b"", Call::Commitment(call))
+    }
+
+    pub fn take(&mut self, hour: u64, unit: u64, kwh: u64) -> Done
+        ensures { Performs self.old (take_call hour unit kwh) self.new result }
+    {
+        self.commit(CommitmentCall {
+            kind: CommitmentKind::Take,
+            hour,
+            unit,
+            to: unit,
+            kwh,
+        })
+    }
+
+    pub fn release(&mut self, hour: u64, unit: u64, kwh: u64) -> Done
+        ensures { Performs self.old (release_call hour unit kwh) self.new result }
+    {
+        self.commit(CommitmentCall {
+            kind: CommitmentKind::Release,
+            hour,
+            unit,
+            to: unit,
+            kwh,
+        })
+    }
+
+    pub fn move_kwh(&mut self, hour: u64, from: u64, to: u64, kwh: u64) -> Done
+        ensures { Performs self.old (move_call hour from to kwh) self.new result }
+    {
+        self.commit(CommitmentCall {
+            kind: CommitmentKind::Move,
+            hour,
+            unit: from,
+            to,
+            kwh,
+        })
+    }
+
+    // The hour record is read from byte `start` of the text on.
+    pub fn settle(&mut self, text: &[u8], start: u64) -> Done
+        ensures { Performs self.old (settle_call text.now start) self.new result }
+    {
+        let call = RecordCall {
+            again: false,
+            begin: 0,
+            end: text.len() as u64,
+            start,
+        };
+        self.perform(text, Call::Record(call))
+    }
+
+    pub fn restate(&mut self, text: &[u8], start: u64) -> Done
+        ensures { Performs self.old (restate_call text.now start) self.new result }
+    {
+        let call = RecordCall {
+            again: true,
+            begin: 0,
+            end: text.len() as u64,
+            start,
+        };
+        self.perform(text, Call::Record(call))
+    }
+
+    pub fn void_hour(&mut self, hour: u64) -> Done
+        ensures { Performs self.old (void_call hour) self.new result }
+    {
+        self.perform(b"", Call::Void(hour))
+    }
+
+    // Any call, given in numbers.
+    pub fn call(&mut self, text: &[u8], asked: Asked) -> Done
+        ensures { Performs self.old (call_for text.now asked) self.new result }
+    {
+        self.perform(text, Call::from(asked))
+    }
+
+    // Whether the unit is in the plant and the item is one of the five.
+    fn knows(&self, unit: u64, item: u64) -> bool
+        ensures { result ≡ item_of self.now.sheet.now unit item }
+    {
+        units::has_unit(self.sheet.units, unit) && (1..=5).contains(&item)
+    }
+
+    // The total of the postings of a unit and an item, up to the count: 9, then 12, then 11.
+    pub fn total(&self, unit: u64, item: u64) -> Result<i64, Refusal>
+        ensures { result ≡ total_on self.now.sheet.now (state_in self.now) unit item }
+    {
+        let sum = self.tested(unit, item)?;
+        if !self.knows(unit, item) {
+            return Err(Refusal::UnitUnknown);
+        }
+        Ok(sum)
+    }
+
+    // A list of calls in numbers, each on what the call before it left, and their answers in numbers. 9 and 12 are tested once, since no call leads into 12; where
+    // one of them holds, every call is refused with it.
+    pub fn run_on(&mut self, calls: &[u64], text: &[u8], answers: &mut [u64])
+        ensures ran { running self.new answers.new ≡ ran_all self.old.sheet.now calls.now text.now (running self.old answers.old) (turns_of (length calls.now) (length answers.old)) }
+        ensures same { Same self.old self.new }
+    {
+        state::is_sized(self.book);
+        let passes = self.passes();
+        for i in 0..turns(calls.len(), answers.len()) {
+            let asked = decisions::asked_at(calls, i);
+            let done = self.answer(passes, text, Call::from(asked));
+            store_answer(answers, i, done);
+        }
     }
 }
 
-// A call on the list: it is decided but for the postings up to the count, these are looked at, and what it posts is appended.
-fn perform(
-    list: &mut [Posting],
-    count: u64,
-    sheet: Sheet,
-    book: Book,
-    text: &[u8],
-    call: Call,
-) -> Outcome
-    ensures { record { outcome = result; list = list.new } ≡ performed list.old count sheet book (call_of text.now call) }
+// As many calls as there are whole groups of eight numbers, and places for four numbers of an answer.
+#[tactic(auto, unfolding(crate::specs::Run::turns_of))]
+fn turns(calls: usize, answers: usize) -> usize
+    ensures { result ≡ turns_of calls answers }
 {
-    let d = single::decide(sheet, book, text, call, count, list.len());
-    let seen = scan(list, count, 0, 0);
-    let c = single::checked(book, count, d, seen.is_some());
-    append(list, c.at, &c.row, c.n);
-    single::outcome_of(c)
+    (calls / 8).min(answers / 4)
 }
 
-// A take, release or move, which has no text.
-fn commit(
-    list: &mut [Posting],
-    count: u64,
-    sheet: Sheet,
-    book: Book,
-    call: CommitmentCall,
-) -> Outcome
-    ensures { record { outcome = result; list = list.new } ≡ performed list.old count sheet book (commitment_of call.kind call) }
+// The four numbers of answer i, where there are places for them.
+fn store_answer(answers: &mut [u64], i: usize, done: Done)
+    ensures { answers.new ≡ stored_answer answers.old i done.answer done.place }
 {
-    perform(list, count, sheet, book, b"", Call::Commitment(call))
-}
-
-// The named calls, thin functions over `perform`.
-pub fn take(
-    list: &mut [Posting],
-    count: u64,
-    sheet: Sheet,
-    book: Book,
-    hour: u64,
-    unit: u64,
-    kwh: u64,
-) -> Outcome
-    ensures { record { outcome = result; list = list.new } ≡ performed list.old count sheet book (take_call hour unit kwh) }
-{
-    let call = CommitmentCall {
-        kind: CommitmentKind::Take,
-        hour,
-        unit,
-        to: unit,
-        kwh,
-    };
-    commit(list, count, sheet, book, call)
-}
-
-pub fn release(
-    list: &mut [Posting],
-    count: u64,
-    sheet: Sheet,
-    book: Book,
-    hour: u64,
-    unit: u64,
-    kwh: u64,
-) -> Outcome
-    ensures { record { outcome = result; list = list.new } ≡ performed list.old count sheet book (release_call hour unit kwh) }
-{
-    let call = CommitmentCall {
-        kind: CommitmentKind::Release,
-        hour,
-        unit,
-        to: unit,
-        kwh,
-    };
-    commit(list, count, sheet, book, call)
-}
-
-pub fn move_kwh(
-    list: &mut [Posting],
-    count: u64,
-    sheet: Sheet,
-    book: Book,
-    hour: u64,
-    from: u64,
-    to: u64,
-    kwh: u64,
-) -> Outcome
-    ensures { record { outcome = result; list = list.new } ≡ performed list.old count sheet book (move_call hour from to kwh) }
-{
-    let call = CommitmentCall {
-        kind: CommitmentKind::Move,
-        hour,
-        unit: from,
-        to,
-        kwh,
-    };
-    commit(list, count, sheet, book, call)
-}
-
-// The hour record is read from byte `start` of the text on.
-pub fn settle(
-    list: &mut [Posting],
-    count: u64,
-    sheet: Sheet,
-    book: Book,
-    text: &[u8],
-    start: u64,
-) -> Outcome
-    ensures { record { outcome = result; list = list.new } ≡ performed list.old count sheet book (settle_call text.now start) }
-{
-    let call = RecordCall {
-        again: false,
-        begin: 0,
-        end: text.len() as u64,
-        start,
-    };
-    perform(list, count, sheet, book, text, Call::Record(call))
-}
-
-pub fn restate(
-    list: &mut [Posting],
-    count: u64,
-    sheet: Sheet,
-    book: Book,
-    text: &[u8],
-    start: u64,
-) -> Outcome
-    ensures { record { outcome = result; list = list.new } ≡ performed list.old count sheet book (restate_call text.now start) }
-{
-    let call = RecordCall {
-        again: true,
-        begin: 0,
-        end: text.len() as u64,
-        start,
-    };
-    perform(list, count, sheet, book, text, Call::Record(call))
-}
-
-pub fn void_hour(list: &mut [Posting], count: u64, sheet: Sheet, book: Book, hour: u64) -> Outcome
-    ensures { record { outcome = result; list = list.new } ≡ performed list.old count sheet book (void_call hour) }
-{
-    perform(list, count, sheet, book, b"", Call::Void(hour))
-}
-
-// Any call, given in numbers.
-pub fn call(
-    list: &mut [Posting],
-    count: u64,
-    sheet: Sheet,
-    book: Book,
-    text: &[u8],
-    asked: Asked,
-) -> Outcome
-    ensures { record { outcome = result; list = list.new } ≡ performed list.old count sheet book (call_for text.now asked) }
-{
-    perform(list, count, sheet, book, text, decisions::decode(asked))
-}
-
-// The total of the postings of a unit and an item, up to the count.
-pub fn total(
-    list: &mut [Posting],
-    count: u64,
-    sheet: Sheet,
-    book: Book,
-    unit: u64,
-    item: u64,
-) -> Result<i64, Refusal>
-    ensures { (result ≡ total_on sheet (record { book = book; count = count; journal = list.old }) unit item) × (list.new ≡ list.old) }
-{
-    let places = list.len();
-    let seen = scan(list, count, unit, item);
-    single::total_of(sheet, book, unit, item, count, places, seen)
-}
-
-// The calls from the next one on, as many as the rows have room for, and their postings appended.
-fn turn(
-    list: &mut [Posting],
-    sheet: Sheet,
-    calls: &[u64],
-    text: &[u8],
-    answers: &mut [u64],
-    n: usize,
-    stand: Stand,
-) -> Stand
-    requires { Due sheet calls.now text.now answers.old (length list.old) n stand }
-    ensures { Leaves sheet calls.now text.now list.old list.new answers.old answers.new n stand result }
-{
-    let step = series::go_on(sheet, calls, text, answers, list.len(), n, stand);
-    append(list, step.at, &step.row, step.n);
-    series::stand_of(step)
-}
-
-// A list of calls on any book and count. 9 and 12 are tested once, since no call leads into 12; where one of them holds, every call is refused with it.
-pub fn run_on(
-    list: &mut [Posting],
-    count: u64,
-    sheet: Sheet,
-    book: Book,
-    calls: &[u64],
-    text: &[u8],
-    answers: &mut [u64],
-) -> Ran
-    ensures { record { list = list.exit.now; answers = answers.new; ran = result } ≡ ran_all sheet calls.now text.now (start_on list.entry.now answers.old count book) (turns_of (length calls.now) (length answers.old)) }
-{
-    let n = batch::turns(calls.len(), answers.len());
-    let seen = scan(list, count, 0, 0);
-    let mut stand = series::started(sheet, book, count, list.len(), seen.is_some());
-    while stand.next < n {
-        stand = turn(list, sheet, calls, text, answers, n, stand);
+    if i < answers.len() / 4 {
+        let at = 4 * i;
+        answers[at..at + 4].copy_from_slice(&decisions::reply_of(done.answer, done.place));
     }
-    series::ran_of(stand)
 }
 
-// The same on the empty book and a count of 0, with the promise about every list of calls.
-pub fn run(
-    list: &mut [Posting],
-    sheet: Sheet,
-    calls: &[u64],
-    text: &[u8],
-    answers: &mut [u64],
-) -> Ran
-    ensures { (record { list = list.exit.now; answers = answers.new; ran = result } ≡ ran_all sheet calls.now text.now (start_on list.entry.now answers.old 0 empty_book) (turns_of (length calls.now) (length answers.old))) × Demand sheet list.entry.now (calls_in calls.now text.now (turns_of (length calls.now) (length answers.old))) (replies_in answers.new (turns_of (length calls.now) (length answers.old))) (record { book = result.book; count = result.count; journal = list.exit.now }) }
+// A list of calls in numbers on the empty book, from the first place of the list on, with the promise about every list of calls.
+pub fn run(list: &mut [Posting], sheet: &Sheet, calls: &[u64], text: &[u8], answers: &mut [u64]) -> Ran
+    ensures ran { record { list = list.new; answers = answers.new; book = result.book; count = result.count } ≡ ran_all sheet.now calls.now text.now (start_on list.old answers.old 0 empty_book) (turns_of (length calls.now) (length answers.old)) }
+    ensures promised { Demand sheet.now list.old (calls_in calls.now text.now (turns_of (length calls.now) (length answers.old))) (replies_in answers.new (turns_of (length calls.now) (length answers.old))) (record { book = result.book; count = result.count; journal = list.new }) }
 {
-    let book = state::empty_book();
-    run_on(list, 0, sheet, book, calls, text, answers)
+    let mut accounts = Accounts {
+        sheet,
+        book: state::empty_book(),
+        list,
+        count: 0,
+    };
+    accounts.run_on(calls, text, answers);
+    Ran {
+        book: accounts.book,
+        count: accounts.count,
+    }
 }

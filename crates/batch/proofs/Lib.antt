@@ -1,4 +1,0 @@
-pub mod Replies
-pub mod Along
-pub mod Ahead
-pub mod Underway

@@ -1,9 +1,0 @@
-pub mod Pasted
-pub mod Listed
-pub mod OffersRead
-pub mod OffersPut
-pub mod OffersUnit
-pub mod OffersLimit
-pub mod Packed
-pub mod Stored
-pub mod Typed

@@ -1,9 +1,0 @@
--- Each entry is made by `amounts_at`.
-use Rattle.std.proofs.Common.{rules}
-use Rattle.finite.proofs.Chains.{tabulate_from_fn}
-use Rattle.numbers.specs.Numbers.{amounts_at, amounts_of}
-use Rattle.numbers.proofs.amounts_of.Goals as goal
-
-pub returns : goal.returns
-unfolding amounts_of
-returns c = tabulate_from_fn (amounts_at c.args.amounts.now) _ _ c.from_fn.ensures.items (λ i y q l k. search rules)

@@ -1,7 +1,0 @@
--- The type of the book says it.
--- Assumes nothing.
-use Rattle.numbers.proofs.Typed.{typed_sized}
-use Rattle.numbers.proofs.is_sized.Goals as goal
-
-pub returns : goal.returns
-returns c = typed_sized c.args.book _ c.well_formed.0

@@ -1,2 +1,0 @@
-pub mod Journal
-pub mod Single
