@@ -144,8 +144,8 @@ pub fn cost_between(offer: Offer, commitment: HubKwh, from: HubGrains, to: HubGr
     let last = offer.steps - 1;
     for s in 0..last {
         let end = energy::grains_of(offer.quantity[s]);
-        cost += end.min(to).above(at).cost(offer.price[s]);
+        cost += end.min(to).above(at).product(offer.price[s]);
         at = at.max(end);
     }
-    cost + to.above(at).cost(offer.price[last])
+    cost + to.above(at).product(offer.price[last])
 }
