@@ -10,6 +10,7 @@ ghost use Rattle.sheet.specs.Ranges.{offer_at, monthly_of, unit_holds, place_hol
 
 use energy::GrossKwh;
 use offer::Offer;
+use std::array;
 
 // What the sheet says of a unit: own use in ten-thousandths, nominal and monthly practical power, the offers of 24
 // hours.
@@ -71,23 +72,23 @@ pub fn no_sheet() -> Sheet
 }
 
 // Each unit's monthly practical power, which a blank line of an hour record stands for.
-pub fn monthly_of(sheet: Sheet) -> [GrossKwh; 8]
-    ensures { result ≡ monthly_of sheet }
+pub fn monthly_of(sheet: &Sheet) -> [GrossKwh; 8]
+    ensures { result ≡ monthly_of sheet.now }
 {
-    sheet.unit.map(|u| u.monthly)
+    array::from_fn(|k| sheet.unit[k].monthly)
 }
 
 // Whether a unit's offers of the 24 hours keep their ranges and orders.
-fn offers_hold(u: UnitSheet) -> bool
-    ensures { result ≡ every 24 (λ h. offer_holds (offer_at u h)) }
+fn offers_hold(u: &UnitSheet) -> bool
+    ensures { result ≡ every 24 (λ h. offer_holds (offer_at u.now h)) }
 {
     u.offers.iter().all(|o| offer::offer_holds(*o))
 }
 
 // Whether a unit's values keep their ranges and orders.
 #[tactic(auto, unfolding(crate::specs::Ranges::unit_holds))]
-fn unit_holds(u: UnitSheet) -> bool
-    ensures { result ≡ unit_holds u }
+fn unit_holds(u: &UnitSheet) -> bool
+    ensures { result ≡ unit_holds u.now }
 {
     u.own <= 2000
         && (1..=1000000).contains(&u.nominal.0)
@@ -96,17 +97,17 @@ fn unit_holds(u: UnitSheet) -> bool
 }
 
 // A place outside the plant has nothing to keep.
-fn place_holds(units: u64, k: usize, u: UnitSheet) -> bool
-    ensures { result ≡ place_holds units k u }
+fn place_holds(units: u64, k: usize, u: &UnitSheet) -> bool
+    ensures { result ≡ place_holds units k u.now }
 {
     !units::member_at(units, k) || unit_holds(u)
 }
 
 // Whether the plant's units keep their ranges and orders.
-fn units_hold(units: u64, unit: [UnitSheet; 8]) -> bool
-    ensures { result ≡ units_hold units unit }
+fn units_hold(units: u64, unit: &[UnitSheet; 8]) -> bool
+    ensures { result ≡ units_hold units unit.now }
 {
-    (0..8).all(|k| place_holds(units, k, unit[k]))
+    (0..8).all(|k| place_holds(units, k, &unit[k]))
 }
 
 fn date_holds(month: u64, day: u64) -> bool
@@ -115,8 +116,8 @@ fn date_holds(month: u64, day: u64) -> bool
     (1..=12).contains(&month) && (1..=last_day(month)).contains(&day)
 }
 
-fn cpf_holds(cpf: [u64; 24]) -> bool
-    ensures { result ≡ cpf_holds cpf }
+fn cpf_holds(cpf: &[u64; 24]) -> bool
+    ensures { result ≡ cpf_holds cpf.now }
 {
     cpf.iter().all(|factor| *factor <= 10000)
 }
@@ -129,12 +130,12 @@ fn rates_hold(loss: u64, ceiling: u64, bar: u64) -> bool
 
 // Whether a sheet keeps its ranges and orders: refusal 9 where it does not.
 #[tactic(auto, unfolding(crate::specs::Ranges::sheet_holds))]
-pub fn sheet_holds(sheet: Sheet) -> bool
-    ensures { result ≡ sheet_holds sheet }
+pub fn sheet_holds(sheet: &Sheet) -> bool
+    ensures { result ≡ sheet_holds sheet.now }
 {
     date_holds(sheet.month, sheet.day)
         && rates_hold(sheet.loss, sheet.ceiling, sheet.bar)
-        && cpf_holds(sheet.cpf)
+        && cpf_holds(&sheet.cpf)
         && (1..=255).contains(&sheet.units)
-        && units_hold(sheet.units, sheet.unit)
+        && units_hold(sheet.units, &sheet.unit)
 }

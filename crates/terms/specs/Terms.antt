@@ -3,10 +3,9 @@ use Rattle.std.specs.Prelude.{◌≡◌, refl, List, ℕ, ◌-◌, get_or}
 use Rattle.finite.specs.Finite.{tabulate}
 use Rattle.offer.specs.declared.Offer.{Offer}
 use Rattle.sheet.specs.declared.Sheet.{Sheet}
-use Rattle.sheet.specs.Ranges.{unit_at as sheet_unit, offer_at, monthly_of}
+use Rattle.sheet.specs.Ranges.{unit_at as sheet_unit, offer_at}
 use Rattle.formulas.specs.Items.{in_season}
 use Rattle.terms.specs.declared.Rates.{Rates}
-use Rattle.terms.specs.declared.DayTerms.{DayTerms}
 use Rattle.terms.specs.declared.HourSheet.{HourSheet}
 
 -- what the formulas use of the sheet in an hour, 1 to 24
@@ -14,7 +13,7 @@ unfoldable pub rates_of : Sheet → ℕ → Rates
 rates_of sheet hour =
     record { season = in_season sheet.month sheet.day; loss = sheet.loss; bar = sheet.bar; cpf = get_or sheet.cpf (hour - 1) 0 }
 
--- for the code: what an hour's settlement uses of the sheet, by place, with the units' offers of the hour
+-- what an hour's settlement uses of the sheet, by place, with the units' offers of the hour
 abbrev pub hour_sheet_with : Sheet → ℕ → List Offer → HourSheet
 hour_sheet_with sheet hour offer =
     record {
@@ -28,32 +27,6 @@ hour_sheet_with sheet hour offer =
 
 abbrev pub hour_offers : Sheet → ℕ → List Offer
 hour_offers sheet h = tabulate 8 (λ k. offer_at (sheet_unit sheet.unit k) h)
-
--- for the code: what a day's settlements use of the sheet, but for the offers, and of it an hour's
-unfoldable pub terms_of : Sheet → DayTerms
-terms_of sheet =
-    record {
-      season = in_season sheet.month sheet.day;
-      loss = sheet.loss;
-      bar = sheet.bar;
-      ceiling = sheet.ceiling;
-      cpf = sheet.cpf;
-      units = sheet.units;
-      own = tabulate 8 (λ k. (sheet_unit sheet.unit k).own);
-      nominal = tabulate 8 (λ k. (sheet_unit sheet.unit k).nominal);
-      monthly = monthly_of sheet;
-    }
-
-abbrev pub hour_terms : DayTerms → ℕ → List Offer → HourSheet
-hour_terms terms hour offer =
-    record {
-      rates = record { season = terms.season; loss = terms.loss; bar = terms.bar; cpf = get_or terms.cpf (hour - 1) 0 };
-      ceiling = terms.ceiling;
-      units = terms.units;
-      own = terms.own;
-      nominal = terms.nominal;
-      offer = offer;
-    }
 
 pub hour_sheet : Sheet → ℕ → HourSheet
 hour_sheet sheet hour = hour_sheet_with sheet hour (hour_offers sheet (hour - 1))

@@ -1,14 +1,15 @@
-// What settlements use of the sheet: the terms of a day, and those of an hour.
+// What an hour's settlement uses of the sheet.
 #![tactic(auto)]
 
-ghost use Rattle.std.specs.Prelude.{◌≡◌, ℕ, ◌≤◌};
+ghost use Rattle.std.specs.Prelude.{◌≡◌, ℕ, ◌≤◌, ◌<◌};
 ghost use Rattle.finite.specs.Finite.{tabulate};
 ghost use Rattle.sheet.specs.Ranges.{unit_at as sheet_unit};
-ghost use Rattle.terms.specs.Terms.{terms_of, hour_terms};
+ghost use Rattle.terms.specs.Terms.{hour_offers, hour_sheet};
 
 use energy::GrossKwh;
 use offer::Offer;
 use sheet::Sheet;
+use std::array;
 
 // What an hour's formulas use of the sheet: whether the day lies in the season, the plant's loss, the base
 // availability rate and the hour's capacity payment factor.
@@ -18,21 +19,6 @@ pub struct Rates {
     pub loss: u64,
     pub bar: u64,
     pub cpf: u64,
-}
-
-// What the settlements of a day use of the sheet, but for the offers, by place. It is taken out once for a list of
-// calls, so that the sheet is not handed on.
-#[derive(Clone, Copy)]
-pub struct DayTerms {
-    pub season: bool,
-    pub loss: u64,
-    pub bar: u64,
-    pub ceiling: u64,
-    pub cpf: [u64; 24],
-    pub units: u64,
-    pub own: [u64; 8],
-    pub nominal: [GrossKwh; 8],
-    pub monthly: [GrossKwh; 8],
 }
 
 // What an hour's settlement uses of the sheet, by place: each unit's own use, nominal power and offer of the hour.
@@ -47,55 +33,45 @@ pub struct HourSheet {
 }
 
 // Each unit's own use.
-fn own_of(sheet: Sheet) -> [u64; 8]
-    ensures { result ≡ tabulate 8 (λ (k : ℕ). (sheet_unit sheet.unit k).own) }
+fn own_of(sheet: &Sheet) -> [u64; 8]
+    ensures { result ≡ tabulate 8 (λ (k : ℕ). (sheet_unit sheet.now.unit k).own) }
 {
-    sheet.unit.map(|u| u.own)
+    array::from_fn(|k| sheet.unit[k].own)
 }
 
 // Each unit's nominal power.
-fn nominal_of(sheet: Sheet) -> [GrossKwh; 8]
-    ensures { result ≡ tabulate 8 (λ (k : ℕ). (sheet_unit sheet.unit k).nominal) }
+fn nominal_of(sheet: &Sheet) -> [GrossKwh; 8]
+    ensures { result ≡ tabulate 8 (λ (k : ℕ). (sheet_unit sheet.now.unit k).nominal) }
 {
-    sheet.unit.map(|u| u.nominal)
+    array::from_fn(|k| sheet.unit[k].nominal)
 }
 
-// What a day's settlements use of the sheet.
-#[tactic(auto, unfolding(crate::specs::Terms::terms_of))]
-pub fn terms_of(sheet: Sheet) -> DayTerms
-    ensures { result ≡ terms_of sheet }
+// Each unit's offer of the hour h, from 0.
+fn offers_of(sheet: &Sheet, h: usize) -> [Offer; 8]
+    requires { h < 24 }
+    ensures { result ≡ hour_offers sheet.now h }
 {
-    let cpf = sheet.cpf;
-    DayTerms {
-        season: formulas::in_season(sheet.month, sheet.day),
-        loss: sheet.loss,
-        bar: sheet.bar,
-        ceiling: sheet.ceiling,
-        cpf,
-        units: sheet.units,
-        own: own_of(sheet),
-        nominal: nominal_of(sheet),
-        monthly: sheet::monthly_of(sheet),
-    }
+    array::from_fn(|k| sheet.unit[k].offers[h])
 }
 
-// What an hour's settlement uses of the sheet, with the units' offers of the hour.
-pub fn hour_sheet(terms: DayTerms, hour: u64, offer: [Offer; 8]) -> HourSheet
+// What an hour's settlement uses of the sheet.
+#[tactic(auto, using(crate::proofs::Taken::hour_taken), unfolding(crate::specs::Terms::rates_of))]
+pub fn hour_sheet(sheet: &Sheet, hour: u64) -> HourSheet
     requires { (1 ≤ hour) × (hour ≤ 24) }
-    ensures { result ≡ hour_terms terms hour offer }
+    ensures { result ≡ hour_sheet sheet.now hour }
 {
     let h = (hour - 1) as usize;
     HourSheet {
         rates: Rates {
-            season: terms.season,
-            loss: terms.loss,
-            bar: terms.bar,
-            cpf: terms.cpf[h],
+            season: formulas::in_season(sheet.month, sheet.day),
+            loss: sheet.loss,
+            bar: sheet.bar,
+            cpf: sheet.cpf[h],
         },
-        ceiling: terms.ceiling,
-        units: terms.units,
-        own: terms.own,
-        nominal: terms.nominal,
-        offer,
+        ceiling: sheet.ceiling,
+        units: sheet.units,
+        own: own_of(sheet),
+        nominal: nominal_of(sheet),
+        offer: offers_of(sheet, h),
     }
 }

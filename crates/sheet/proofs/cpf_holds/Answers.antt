@@ -7,4 +7,4 @@ use Rattle.sheet.specs.Limits.{most_cpf}
 use Rattle.sheet.proofs.cpf_holds.Goals as goal
 
 pub returns : goal.returns
-returns c = every_slice (λ (n : ℕ). leb n most_cpf) c.args.cpf 24 0 _ (search rules) (search rules) c.all.ensures.ran (λ x y q k. search rules)
+returns c = every_slice (λ (n : ℕ). leb n most_cpf) c.args.cpf.now 24 0 _ (search rules) (search rules) c.all.ensures.ran (λ x y q k. search rules)

@@ -1,10 +1,11 @@
--- Each unit's by a map over the units.
+-- Each unit's, by place.
 -- Assumes nothing.
-use Rattle.std.proofs.Common.{rules}
-use Rattle.finite.proofs.Chains.{tabulate_map}
-use Rattle.sheet.specs.declared.UnitSheet.{UnitSheet}
-use Rattle.sheet.specs.Ranges.{past_unit}
+use Rattle.std.proofs.Common.{rules, ℕ}
+use Rattle.finite.proofs.Chains.{tabulate_from_fn}
+use Rattle.sheet.specs.Ranges.{unit_at}
 use Rattle.terms.proofs.nominal_of.Goals as goal
 
 pub returns : goal.returns
-returns c = tabulate_map (λ (u : UnitSheet). u.nominal) _ _ _ past_unit c.map.ensures.items (λ x y q k. search rules)
+returns c =
+    let units = c.args.sheet.now.unit in
+    tabulate_from_fn (λ (k : ℕ). (unit_at units k).nominal) _ _ c.from_fn.ensures.items (λ i y q l k. search rules)
