@@ -168,9 +168,9 @@ impl ModifiedOffer<'_> {
         for s in 0..last {
             let step = self.offer.step[s];
             let end = energy::grains_of(step.quantity);
-            cost += end.min(to).above(at).cost(step.price);
+            cost += end.min(to).above(at).product(step.price);
             at = at.max(end);
         }
-        cost + to.above(at).cost(self.offer.step[last].price)
+        cost + to.above(at).product(self.offer.step[last].price)
     }
 }

@@ -37,16 +37,16 @@ turn c next e =
     cost_next a.self.now.offer.now l.s l.at.0 a.to.0 c.above.result.0 next c.loop-s-test.true
     (omega (arith, c.above.ensures, min_amount (λ (g : HubGrains). g.0) _ c.grains_of-end.result a.to c.min.ensures)) (omega (arith, q, e))
 
-pub cost-cost-requires : goal.cost-cost-requires
-cost-cost-requires c = omega (arith, turn (goal.at.cost-cost-requires c).After-above _ refl, c.loop-s.invariant)
+pub product-cost-requires : goal.product-cost-requires
+product-cost-requires c = omega (arith, turn (goal.at.product-cost-requires c).After-above _ refl, c.loop-s.invariant)
 
 pub overflow_add-cost : goal.overflow_add-cost
-overflow_add-cost c = omega (arith, c.cost-cost.ensures, turn (goal.at.overflow_add-cost c).After-above _ refl, c.loop-s.invariant)
+overflow_add-cost c = omega (arith, c.product-cost.ensures, turn (goal.at.overflow_add-cost c).After-above _ refl, c.loop-s.invariant)
 
 pub loop-s-preserved : goal.loop-s-preserved
 loop-s-preserved c =
     let i = c.loop-s.invariant in
-    (omega (arith, c.cost-cost.ensures, turn (goal.at.loop-s-preserved c).After-above c.max-at-in-loop-s.result.0 (max_amount (λ (g : HubGrains). g.0) _ c.loop-s.at c.grains_of-end.result c.max-at-in-loop-s.ensures)), i.1)
+    (omega (arith, c.product-cost.ensures, turn (goal.at.loop-s-preserved c).After-above c.max-at-in-loop-s.result.0 (max_amount (λ (g : HubGrains). g.0) _ c.loop-s.at c.grains_of-end.result c.max-at-in-loop-s.ensures)), i.1)
 
 -- the last step, with all grains that are left
 left : (c : After-above-2) → cost_on c.args.self.now.offer.now c.loop-s.s c.loop-s.at.0 c.args.to.0 ≡ c.above-2.result.0 * step_price c.args.self.now.offer.now (c.args.self.now.offer.now.steps - 1)
@@ -56,11 +56,11 @@ left c =
     let last : l.s ≡ a.self.now.offer.now.steps - 1 = omega arith in
     cost_last a.self.now.offer.now l.s l.at.0 a.to.0 (omega arith) ∙ ap₂ (λ (n s : ℕ). n * step_price a.self.now.offer.now s) (sym c.above-2.ensures) last
 
-pub cost-requires : goal.cost-requires
-cost-requires c = omega (arith, left (goal.at.cost-requires c).After-above-2, c.loop-s.invariant)
+pub product-requires : goal.product-requires
+product-requires c = omega (arith, left (goal.at.product-requires c).After-above-2, c.loop-s.invariant)
 
 pub overflow_add-result : goal.overflow_add-result
-overflow_add-result c = omega (arith, c.cost.ensures, left (goal.at.overflow_add-result c).After-above-2, c.loop-s.invariant)
+overflow_add-result c = omega (arith, c.product.ensures, left (goal.at.overflow_add-result c).After-above-2, c.loop-s.invariant)
 
 pub returns : goal.returns
-returns c = omega (arith, c.cost.ensures, total (goal.at.returns c).After-max-at, left (goal.at.returns c).After-above-2, c.loop-s.invariant)
+returns c = omega (arith, c.product.ensures, total (goal.at.returns c).After-max-at, left (goal.at.returns c).After-above-2, c.loop-s.invariant)
