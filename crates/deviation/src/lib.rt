@@ -12,26 +12,26 @@ use record::{Span, UnitRecord};
 
 // A unit by its own use, in ten-thousandths, and by what the record says of it.
 #[derive(Clone, Copy)]
-struct Unit {
+struct Unit<'a> {
     own: u64,
-    hour: UnitRecord,
-    ghost in_range: { UnitInRange hour },
+    hour: &'a UnitRecord,
+    ghost in_range: { UnitInRange hour.now },
 }
 
-impl Unit {
+impl Unit<'_> {
     // max(test - net(capability), 0) × minutes of a span.
     #[tactic(auto, using(crate::proofs::Weights::short_most), unfolding(crate::specs::Deviation::short_minutes))]
-    fn short_minutes(self, span: Span) -> u64
+    fn short_minutes(&self, span: Span) -> u64
         requires { (span.capability.0 ≤ 1000000) × (span.minutes ≤ 60) }
-        ensures { result ≡ short_minutes self.own self.hour.test span }
+        ensures { result ≡ short_minutes self.now.own self.now.hour.now.test span }
     {
         let able = energy::net_of(span.capability, self.own);
         self.hour.test.above(able).product(span.minutes)
     }
 
     // The sum of each kind from kind 2 on, over the spans: each adds to the kind that it counts as.
-    fn proportions(self) -> [u64; KINDS]
-        ensures { result ≡ the_proportions self.own self.hour }
+    fn proportions(&self) -> [u64; KINDS]
+        ensures { result ≡ the_proportions self.now.own self.now.hour.now }
     {
         let mut sums = [0u64; KINDS];
         for span in &self.hour.span[..self.hour.spans] {
@@ -44,8 +44,8 @@ impl Unit {
     }
 
     // Whether all sums of the kinds are 0.
-    fn no_proportion(self) -> bool
-        ensures { result ≡ no_proportion self.own self.hour }
+    fn no_proportion(&self) -> bool
+        ensures { result ≡ no_proportion self.now.own self.now.hour.now }
     {
         self.proportions().iter().all(|sum| *sum == 0)
     }
@@ -57,7 +57,7 @@ pub fn split(own: u64, u: &UnitRecord) -> Deviations
     requires { UnitInRange u.now }
     ensures { result ≡ deviations_of own u.now }
 {
-    let unit = Unit { own: own, hour: *u };
+    let unit = Unit { own: own, hour: u };
     let weights = unit.proportions();
     let mut shares = [0u64; KINDS];
     apportion::apportion(&weights, u.deviation.0, &mut shares);
@@ -72,6 +72,6 @@ pub fn is_proportioned(own: u64, u: &UnitRecord) -> bool
     requires { UnitInRange u.now }
     ensures { result ≡ unit_proportioned own u.now }
 {
-    let unit = Unit { own: own, hour: *u };
+    let unit = Unit { own: own, hour: u };
     u.deviation == NetKwh(0) || !unit.no_proportion()
 }
