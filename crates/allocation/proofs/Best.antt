@@ -100,3 +100,9 @@ best_same next next' room n same = best_only next room n (best next' room n) (by
           first = λ j l r. omega (arith, e, same j (omega (arith, h.known)) r, h.first j l r);
           least = λ j l r. omega (arith, e, same j l r, h.least j l r);
         }
+
+-- the same rooms
+pub best_rooms : (next : ℕ → ℕ) (room room' : ℕ → Bool) (n : ℕ) → ((u : ℕ) → u < n → room u ≡ room' u) → best next room n ≡ best next room' n
+unfolding best
+best_rooms next room room' zero same = refl
+best_rooms next room room' (suc n) same = rw (best_rooms next room room' n (λ u l. same u (omega arith)), same n (omega arith)) refl

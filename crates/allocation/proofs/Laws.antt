@@ -5,26 +5,25 @@ use mathlib.Core.Path.{◌≡◌, refl, ◌∙◌, ap}
 use mathlib.Core.Bool.{Bool, true, false}
 use Prim.Native.Nat.{ℕ, suc, ◌≤◌, ◌<◌}
 use native.Mathlib.Omega.{arith}
-use lib.ListN.{length, get_or}
+use lib.ListN.{length}
 use Rattle.finite.specs.Finite.{sum}
 use Rattle.finite.proofs.Sums.{sum_has}
 use Rattle.finite.proofs.Tables.{length_tabulate}
 use Rattle.energy.specs.declared.NetKwh.{NetKwh}
 use Rattle.energy.proofs.Laws.{hub_le}
 use Rattle.units.specs.Units.{member_at}
-use Rattle.offer.specs.Offer.{past_offer}
 use Rattle.offer.specs.Modified.{cost_to}
 use Rattle.offer.proofs.Prices.{price_rises}
 use Rattle.allocation.specs.declared.Plant.{Plant}
 use Rattle.allocation.specs.Fill.{grains_at, cost_of}
-use Rattle.allocation.specs.Allocation.{net_energy, plant_energy, ceiling_at, ceilings, ceilings_is, price_of, energies, energies_is, Allocated, PlantHolds}
+use Rattle.allocation.specs.Allocation.{net_energy, plant_energy, unit_at, ceiling_at, ceilings, ceilings_is, price_of, energies, energies_is, Allocated, PlantHolds}
 use Rattle.allocation.proofs.Threshold.{Rising, fill_cheapest, fill_length}
 use Rattle.allocation.proofs.Weights.{ceilings_reach, ceiling_none}
 
 -- a split's cost, by the costs of the modified offers
 pub cost_is : (plant : Plant) (x : ℕ → ℕ)
     → cost_of (price_of plant) 8 x
-    ≡ sum 8 (λ k. cost_to (get_or plant.offer k past_offer) (get_or plant.commitment k (record { 0 = 0 })) (x k))
+    ≡ sum 8 (λ k. cost_to (unit_at plant k).offer (unit_at plant k).commitment (x k))
 unfolding price_of cost_to
 cost_is plant x = refl
 
@@ -46,7 +45,7 @@ module _ (net reverse : NetKwh) (plant : Plant) where
         go (member_at plant.units u) refl
       where
         go : (t : Bool) → member_at plant.units u ≡ t → price_of plant u i ≤ price_of plant u (suc i)
-        go true t = price_rises (get_or plant.offer u past_offer) (h.each u t).offered (get_or plant.commitment u (record { 0 = 0 })) i
+        go true t = price_rises (unit_at plant u).offer (h.each u t).offered (unit_at plant u).commitment i
         go false t = absurd (omega (arith, ceiling_none plant h net reverse u l t))
 
     -- the energies add up to H, each within its ceiling, and every other such split costs at least as much

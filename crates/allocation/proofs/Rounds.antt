@@ -1,7 +1,7 @@
 -- A round of the fill's code: the unit whose next block is cheapest is the one that gets the next grain, since a block's price is its first
 -- grain's; the block's grains then go to it together, and only its own next block changes.
 -- Assumes nothing.
-use mathlib.Core.Path.{◌≡◌, refl, sym, subst, ◌∙◌, ap}
+use mathlib.Core.Path.{◌≡◌, refl, sym, subst, ◌∙◌, ap, ap₂}
 use mathlib.Core.Bool.{Bool, true, false}
 use mathlib.Core.List.{List}
 use Prim.Native.Nat.{ℕ, ◌+◌, ◌-◌, ◌<◌, ◌≤◌}
@@ -10,20 +10,20 @@ use native.Mathlib.Decide.{ℕ_discrete}
 use native.Mathlib.Omega.{arith}
 use borrow.Author.Tests.{lt-ltb, le-ltb, ltb-true}
 use lib.Dec.{ltb}
-use lib.ListN.{length, get_or, set}
+use lib.ListN.{length, length-set, get_or, set}
 use lib.Seq.{get_or-set_same, get_or-set_other}
-use Rattle.energy.specs.declared.HubKwh.{HubKwh}
+use Rattle.finite.proofs.Tables.{length_tabulate, get_d_tabulate}
+use Rattle.finite.proofs.Chains.{tabulated}
 use Rattle.energy.specs.declared.HubGrains.{HubGrains}
-use Rattle.offer.specs.declared.Offer.{Offer}
-use Rattle.offer.specs.declared.Block.{Block}
-use Rattle.offer.specs.Offer.{past_offer}
 use Rattle.offer.specs.Modified.{IsBlock}
 use Rattle.std.specs.declared.option.Option.{Option}
 use Rattle.std.specs.declared.option.Option.TheVariants.{None as none, Some as at}
 use Rattle.allocation.specs.Fill.{grains_at, with_more, better, best, next_unit, place}
-use Rattle.allocation.specs.Allocation.{prices_of}
-use Rattle.allocation.specs.Blocks.{block_price, block_end, priced, HasBlock}
-use Rattle.allocation.proofs.Best.{best_same}
+use Rattle.allocation.specs.declared.PlantUnit.{PlantUnit}
+use Rattle.allocation.specs.declared.Filling.{Filling}
+use Rattle.allocation.specs.Allocation.{past_unit, prices_of}
+use Rattle.allocation.specs.Blocks.{priced, no_filling, filling_at, next_price, has_room, given, Fillings}
+use Rattle.allocation.proofs.Best.{best_same, best_rooms}
 use Rattle.allocation.proofs.Runs.{place_add, picked, run}
 
 -- the better of two units, by the code's tests
@@ -53,60 +53,82 @@ module _ (next : ℕ → ℕ) (room : ℕ → Bool) (n : ℕ) where
   unfolding best
   best_full e = rw add-one (rw e)
 
-module _ (offers : List Offer) (commitments : List HubKwh) (ceilings : List HubGrains) where
-  -- the blocks after one was replaced
-  module _ (blocks : List Block) (u : ℕ) (b : Block) where
-    abbrev BlockAt : ℕ → ℕ → Block → Type 0
-    BlockAt v i b =
-        i < grains_at ceilings v
-        → IsBlock (get_or offers v past_offer) (get_or commitments v (record { 0 = 0 })) i (grains_at ceilings v) b.price b.end.0
+-- one unit's place in the fill replaced
+module _ (fs : List Filling) (u : ℕ) (f : Filling) (long : length fs ≡ 8) (l : u < 8) where
+  filling_same : filling_at (set fs u f) u ≡ f
+  filling_same = get_or-set_same fs u f no_filling (omega (arith, long))
 
-    pub block_same : (i : ℕ) → u < length blocks → BlockAt u i b → HasBlock offers commitments ceilings (set blocks u b) u i
-    block_same i l h = subst (BlockAt u i) (sym (get_or-set_same blocks u b (record { price = 0; end = record { 0 = 0 } }) l)) h
+  filling_other : (v : ℕ) → (v ≡ u → ⊥) → filling_at (set fs u f) v ≡ filling_at fs v
+  filling_other v d = get_or-set_other fs u v f no_filling d
 
-    pub block_other : (v i : ℕ) → (v ≡ u → ⊥) → HasBlock offers commitments ceilings blocks v i → HasBlock offers commitments ceilings (set blocks u b) v i
-    block_other v i d h = subst (BlockAt v i) (sym (get_or-set_other blocks u v b (record { price = 0; end = record { 0 = 0 } }) d)) h
+  -- what holds of the new one, and of each other one
+  pub replaced : (P : ℕ → Filling → Type 0) → P u f → ((v : ℕ) → v < 8 → (v ≡ u → ⊥) → P v (filling_at fs v)) → (v : ℕ) → v < 8 → P v (filling_at (set fs u f) v)
+  replaced P h others v m = go (ℕ_discrete v u)
+    where
+      go : Dec (v ≡ u) → P v (filling_at (set fs u f) v)
+      go (yes e) = subst (λ (v : ℕ). P v (filling_at (set fs u f) v)) (sym e) (subst (P u) (sym filling_same) h)
+      go (no d) = subst (P v) (sym (filling_other v d)) (others v m d)
 
-  module _ (a : List HubGrains) (blocks : List Block) (has : (u : ℕ) → u < 8 → HasBlock offers commitments ceilings blocks u (grains_at a u)) where
-    -- the cheapest next block is that of the unit that gets the next grain
-    pub same_pick : best (block_price blocks) (λ u. ltb (grains_at a u) (grains_at ceilings u)) 8 ≡ next_unit (prices_of offers commitments) (grains_at ceilings) 8 a
-    same_pick =
-        best_same (block_price blocks) (λ u. prices_of offers commitments u (grains_at a u)) (λ u. ltb (grains_at a u) (grains_at ceilings u)) 8
-        (λ u l r. let b = has u l (ltb-true (grains_at a u) (grains_at ceilings u) r) in sym (b.flat (grains_at a u) (omega arith) b.past))
+  pub given_set : given (set fs u f) ≡ set (given fs) u f.energy
+  given_set =
+      sym
+      (tabulated 8 (λ k. (filling_at (set fs u f) k).energy) (set (given fs) u f.energy)
+      (length-set (given fs) u f.energy ∙ length_tabulate 8 (λ k. (filling_at fs k).energy))
+      (λ i d m. go i d m (ℕ_discrete i u)))
+    where
+      go : (i : ℕ) (d : HubGrains) → i < 8 → Dec (i ≡ u) → get_or (set (given fs) u f.energy) i d ≡ (filling_at (set fs u f) i).energy
+      go i d m (yes e) =
+          subst (λ (i : ℕ). get_or (set (given fs) u f.energy) i d ≡ (filling_at (set fs u f) i).energy) (sym e)
+          (get_or-set_same (given fs) u f.energy d (omega (arith, length_tabulate 8 (λ k. (filling_at fs k).energy)))
+          ∙ ap (λ (f : Filling). f.energy) (sym filling_same))
+      go i d m (no e) =
+          get_or-set_other (given fs) u i f.energy d e
+          ∙ get_d_tabulate 8 (λ k. (filling_at fs k).energy) i d m
+          ∙ ap (λ (f : Filling). f.energy) (sym (filling_other i e))
 
-    module _ (u : ℕ) (long : length a ≡ 8) (e : next_unit (prices_of offers commitments) (grains_at ceilings) 8 a ≡ at u) where
-      pub known : (u < 8) × (grains_at a u < grains_at ceilings u)
-      known = let b = picked (prices_of offers commitments) (grains_at ceilings) 8 a u e in (b.known, ltb-true _ _ b.free)
+module _ (units : List PlantUnit) (ceilings : List HubGrains) (fs : List Filling) (has : Fillings units ceilings fs) where
+  abbrev pub a : List HubGrains
+  a = given fs
 
-      pub block : IsBlock (get_or offers u past_offer) (get_or commitments u (record { 0 = 0 })) (grains_at a u) (grains_at ceilings u) (block_price blocks u) (block_end blocks u)
-      block = has u known.0 known.1
+  pub given_at : (u : ℕ) → u < 8 → grains_at a u ≡ (filling_at fs u).energy.0
+  given_at u l = ap (λ (g : HubGrains). g.0) (get_d_tabulate 8 (λ k. (filling_at fs k).energy) u (record { 0 = 0 }) l)
 
-      -- a block, or less: unit u then has g grains
-      pub placed : (m : ℕ) (g : HubGrains) → m ≤ block_end blocks u - grains_at a u → g.0 ≡ grains_at a u + m
-          → place (prices_of offers commitments) (grains_at ceilings) 8 m a ≡ set a u g
-      placed m g l s =
-          let gave : with_more a u m ≡ set a u g = ap (set a u) (λ i. record { 0 = sym s i }) in
-          run (prices_of offers commitments) (grains_at ceilings) 8 a u long e m (omega (arith, block.within, block.past))
-          (λ i q.
-          block.flat (grains_at a u + i) (omega arith) (omega (arith, block.past)) ∙ sym (block.flat (grains_at a u) (omega arith) block.past))
-          ∙ gave
+  pub ceiling_at : (u : ℕ) → u < 8 → (filling_at fs u).ceiling.0 ≡ grains_at ceilings u
+  ceiling_at u l = ap (λ (g : HubGrains). g.0) (has u l).0
 
-      pub has_after : (g : HubGrains) (b : Block) → length blocks ≡ 8
-          → (g.0 < grains_at ceilings u
-          → IsBlock (get_or offers u past_offer) (get_or commitments u (record { 0 = 0 })) g.0 (grains_at ceilings u) b.price b.end.0)
-          → (v : ℕ) → v < 8 → HasBlock offers commitments ceilings (set blocks u b) v (grains_at (set a u g) v)
-      has_after g b len h v l = go (ℕ_discrete v u)
-        where
-          Has : ℕ → HubGrains → Type 0
-          Has v x = HasBlock offers commitments ceilings (set blocks u b) v x.0
+  -- the cheapest next block is that of the unit that gets the next grain
+  pub same_pick : best (next_price fs) (has_room fs) 8 ≡ next_unit (prices_of units) (grains_at ceilings) 8 a
+  same_pick =
+      best_same (next_price fs) (λ u. prices_of units u (grains_at a u)) (has_room fs) 8
+      (λ u l r.
+      let b = (has u l).1 (ltb-true _ _ r) in
+      sym (ap (prices_of units u) (given_at u l) ∙ b.flat (filling_at fs u).energy.0 (omega arith) b.past))
+      ∙ best_rooms (λ u. prices_of units u (grains_at a u)) (has_room fs) (λ u. ltb (grains_at a u) (grains_at ceilings u)) 8
+      (λ u l. ap₂ ltb (sym (given_at u l)) (ceiling_at u l))
 
-          go : Dec (v ≡ u) → HasBlock offers commitments ceilings (set blocks u b) v (grains_at (set a u g) v)
-          go (yes e) =
-              subst (λ (v : ℕ). HasBlock offers commitments ceilings (set blocks u b) v (grains_at (set a u g) v)) (sym e)
-              (subst (Has u) (sym (get_or-set_same a u g (record { 0 = 0 }) (omega (arith, long, known))))
-              (block_same blocks u b g.0 (omega (arith, len, known)) h))
-          go (no d) =
-              subst (Has v) (sym (get_or-set_other a u v g (record { 0 = 0 }) d)) (block_other blocks u b v (grains_at a v) d (has v l))
+  module _ (u : ℕ) (e : next_unit (prices_of units) (grains_at ceilings) 8 a ≡ at u) where
+    pub known : (u < 8) × ((filling_at fs u).energy.0 < (filling_at fs u).ceiling.0)
+    known =
+        let b = picked (prices_of units) (grains_at ceilings) 8 a u e in
+        (b.known, omega (arith, ltb-true _ _ b.free, given_at u b.known, ceiling_at u b.known))
+
+    pub block : IsBlock (get_or units u past_unit).offer (get_or units u past_unit).commitment (filling_at fs u).energy.0 (filling_at fs u).ceiling.0 (filling_at fs u).next.price (filling_at fs u).next.end.0
+    block = (has u known.0).1 known.1
+
+    -- a block, or less: unit u then has g grains
+    pub placed : (m : ℕ) (g : HubGrains) → m ≤ (filling_at fs u).next.end.0 - (filling_at fs u).energy.0 → g.0 ≡ (filling_at fs u).energy.0 + m
+        → place (prices_of units) (grains_at ceilings) 8 m a ≡ set a u g
+    placed m g l s =
+        let now = given_at u known.0 in
+        let most = ceiling_at u known.0 in
+        let more : grains_at a u + m ≡ g.0 = omega (arith, now, s) in
+        let gave : with_more a u m ≡ set a u g = ap (set a u) (λ i. record { 0 = more i }) in
+        run (prices_of units) (grains_at ceilings) 8 a u (length_tabulate 8 (λ k. (filling_at fs k).energy)) e m
+        (omega (arith, block.within, block.past, now, most))
+        (λ i q.
+        block.flat (grains_at a u + i) (omega (arith, now)) (omega (arith, block.past, now))
+        ∙ sym (block.flat (grains_at a u) (omega (arith, now)) (omega (arith, block.past, now))))
+        ∙ gave
 
 -- the grains placed so far and some more
 pub further : (price : ℕ → ℕ → ℕ) (ceiling : ℕ → ℕ) (n m more : ℕ) (z a b : List HubGrains) → n + m ≡ more

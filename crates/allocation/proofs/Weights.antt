@@ -19,13 +19,13 @@ use Rattle.energy.specs.Energy.{hub_of}
 use Rattle.energy.proofs.Laws.{hub_le, hub_mono, hub_add, hub_sum}
 use Rattle.units.specs.Units.{bit, member_at, members}
 use Rattle.units.proofs.Laws.{count_members, count_positive, place_one, place_zero}
-use Rattle.offer.specs.Offer.{past_offer, offer_holds}
+use Rattle.offer.specs.Offer.{offer_holds}
 use Rattle.apportion.specs.Shares.{sum_of, Fits}
 use Rattle.apportion.proofs.Laws.{shares_total, share_none, share_within}
 use Rattle.allocation.specs.declared.Plant.{Plant}
 use Rattle.allocation.specs.Fill.{grains_at}
 use Rattle.allocation.specs.Blocks.{Offered}
-use Rattle.allocation.specs.Allocation.{above, net_energy, plant_energy, net_at, gross_at, real_sum, excess, weight_at, excess_shares, ceiling_at, ceilings, ceilings_is, PlantHolds}
+use Rattle.allocation.specs.Allocation.{above, net_energy, plant_energy, unit_at, net_at, gross_at, real_sum, excess, weight_at, excess_shares, ceiling_at, ceilings, ceilings_is, PlantHolds}
 
 by_member : (units k : ℕ) (P : Bool → Type 0) → (member_at units k ≡ true → P true) → (member_at units k ≡ false → P false) → P (member_at units k)
 by_member units k P inside outside = go (member_at units k) refl
@@ -48,11 +48,11 @@ module _ (plant : Plant) where
       ∙ sum_same 8 (λ i. get_or (tabulate 8 (weight_at plant)) i 0) (weight_at plant) weight_at_lem
 
   -- the weights are those of `real` or those of `nominal`
-  by_real : 0 < (real_sum plant).0 → (k : ℕ) → weight_at plant k ≡ (net_at plant.units plant.real k).0
+  by_real : 0 < (real_sum plant).0 → (k : ℕ) → weight_at plant k ≡ (net_at plant k).0
   unfolding weight_at
   by_real l k = simp (ne_eqb (real_sum plant).0 0 (λ e. omega arith))
 
-  by_nominal : (real_sum plant).0 ≡ 0 → (k : ℕ) → weight_at plant k ≡ (gross_at plant.units plant.nominal k).0
+  by_nominal : (real_sum plant).0 ≡ 0 → (k : ℕ) → weight_at plant k ≡ (gross_at plant k).0
   unfolding weight_at
   by_nominal e k = simp (eq-eqb _ _ e)
 
@@ -65,11 +65,11 @@ module _ (plant : Plant) where
       go (no l) = by_nominal (omega arith) k ∙ simp t
 
   module _ (h : PlantHolds plant) where
-    pub real_most : (k : ℕ) → (net_at plant.units plant.real k).0 ≤ 1000000
-    real_most k = by_member plant.units k (λ t. (cond t (get_or plant.real k (record { 0 = 0 })) (record { 0 = 0 })).0 ≤ 1000000) (λ t. (h.each k t).able) (λ t. omega arith)
+    pub real_most : (k : ℕ) → (net_at plant k).0 ≤ 1000000
+    real_most k = by_member plant.units k (λ t. (cond t (unit_at plant k).real (record { 0 = 0 })).0 ≤ 1000000) (λ t. (h.each k t).able) (λ t. omega arith)
 
-    pub nominal_most : (k : ℕ) → (gross_at plant.units plant.nominal k).0 ≤ 1000000
-    nominal_most k = by_member plant.units k (λ t. (cond t (get_or plant.nominal k (record { 0 = 0 })) (record { 0 = 0 })).0 ≤ 1000000) (λ t. (h.each k t).rated.1) (λ t. omega arith)
+    pub nominal_most : (k : ℕ) → (gross_at plant k).0 ≤ 1000000
+    nominal_most k = by_member plant.units k (λ t. (cond t ((unit_at plant k).nominal) (record { 0 = 0 })).0 ≤ 1000000) (λ t. (h.each k t).rated.1) (λ t. omega arith)
 
     pub weight_most : (k : ℕ) → weight_at plant k ≤ 1000000
     weight_most k = go (dec_lt 0 (real_sum plant).0)
@@ -82,9 +82,9 @@ module _ (plant : Plant) where
     some_unit : 0 < members plant.units 8
     some_unit = omega (arith, count_members plant.units (omega (arith, h.some)), count_positive plant.units (omega (arith, h.some)))
 
-    rated : (k : ℕ) → k < 8 → bit plant.units k ≤ (gross_at plant.units plant.nominal k).0
+    rated : (k : ℕ) → k < 8 → bit plant.units k ≤ (gross_at plant k).0
     rated k l =
-        by_member plant.units k (λ t. bit plant.units k ≤ (cond t (get_or plant.nominal k (record { 0 = 0 })) (record { 0 = 0 })).0)
+        by_member plant.units k (λ t. bit plant.units k ≤ (cond t ((unit_at plant k).nominal) (record { 0 = 0 })).0)
         (λ t. omega (arith, place_one plant.units k t, (h.each k t).rated.0))
         (λ t. omega (arith, place_zero plant.units k l t))
 
@@ -93,7 +93,7 @@ module _ (plant : Plant) where
     some_weight = go (dec_lt 0 (real_sum plant).0)
       where
         go : Dec (0 < (real_sum plant).0) → 0 < sum_of (tabulate 8 (weight_at plant))
-        go (yes l) = omega (arith, weights_sum, sum_same 8 (weight_at plant) (λ k. (net_at plant.units plant.real k).0) (λ k _. by_real l k))
+        go (yes l) = omega (arith, weights_sum, sum_same 8 (weight_at plant) (λ k. (net_at plant k).0) (λ k _. by_real l k))
         go (no l) =
             omega (
               arith,
@@ -118,13 +118,13 @@ module _ (plant : Plant) where
       pub ceilings_sum : sum 8 (grains_at (ceilings net reverse plant)) ≡ (hub_of (real_sum plant) plant.loss).0 + (excess net reverse plant).0
       unfolding ceiling_at real_sum
       ceilings_sum =
-          let hub : ℕ → ℕ = λ k. (hub_of (net_at plant.units plant.real k) plant.loss).0 in
+          let hub : ℕ → ℕ = λ k. (hub_of (net_at plant k) plant.loss).0 in
           let share : ℕ → ℕ = λ k. get_or (excess_shares net reverse plant) k 0 in
           omega (
             arith,
             sum_same 8 (grains_at (ceilings net reverse plant)) (λ k. hub k + share k) ceiling_at_lem,
             sum_add 8 hub share,
-            hub_sum 8 (λ k. (net_at plant.units plant.real k).0) plant.loss,
+            hub_sum 8 (λ k. (net_at plant k).0) plant.loss,
             shares_sum,
           )
 
@@ -152,15 +152,15 @@ module _ (plant : Plant) where
             zero_hub,
           )
         where
-          zero_hub : (net_at plant.units plant.real k).0 * (10000 - plant.loss) ≡ 0
+          zero_hub : (net_at plant k).0 * (10000 - plant.loss) ≡ 0
           zero_hub = simp t (zero-mul (10000 - plant.loss))
 
       -- for the code: a unit with a ceiling over 0 is in the plant
-      pub offered : Offered plant.offer plant.commitment (ceilings net reverse plant)
+      pub offered : Offered plant.unit (ceilings net reverse plant)
       offered u l over = go (member_at plant.units u) refl
         where
           go : (t : Bool) → member_at plant.units u ≡ t
-              → (offer_holds (get_or plant.offer u past_offer) ≡ true) × ((get_or plant.commitment u (record { 0 = 0 })).0 ≤ 1000000000)
+              → (offer_holds (unit_at plant u).offer ≡ true) × ((unit_at plant u).commitment.0 ≤ 1000000000)
           go true t = ((h.each u t).offered, omega (arith, (h.each u t).committed))
           go false t = absurd (omega (arith, ceiling_none u l t))
 

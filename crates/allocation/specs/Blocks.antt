@@ -1,36 +1,52 @@
--- For the code of the fill: each unit's next block, of grains that follow one another at one price.
-use Rattle.std.specs.Prelude.{◌≡◌, true, List, ℕ, ◌<◌, ◌≤◌, get_or}
+-- For the code of the fill: each unit's ceiling, its energy so far and its next block, of grains that follow one another at one price.
+use Rattle.std.specs.Prelude.{◌≡◌, Bool, true, List, ℕ, ◌<◌, ◌≤◌, ltb, get_or}
 use Rattle.std.specs.declared.option.Option.{Option}
 use Rattle.std.specs.declared.option.Option.TheVariants.{None as none, Some as at}
-use Rattle.energy.specs.declared.HubKwh.{HubKwh}
+use Rattle.finite.specs.Finite.{tabulate}
 use Rattle.energy.specs.declared.HubGrains.{HubGrains}
-use Rattle.offer.specs.declared.Offer.{Offer}
-use Rattle.offer.specs.declared.Block.{Block}
-use Rattle.offer.specs.Offer.{past_offer, offer_holds}
+use Rattle.offer.specs.Offer.{offer_holds}
 use Rattle.offer.specs.Modified.{IsBlock}
+use Rattle.allocation.specs.declared.PlantUnit.{PlantUnit}
+use Rattle.allocation.specs.declared.Filling.{Filling}
 use Rattle.allocation.specs.Fill.{grains_at}
-
--- the price of a unit's next block
-abbrev pub block_price : List Block → ℕ → ℕ
-block_price blocks u = (get_or blocks u (record { price = 0; end = record { 0 = 0 } })).price
-
-abbrev pub block_end : List Block → ℕ → ℕ
-block_end blocks u = (get_or blocks u (record { price = 0; end = record { 0 = 0 } })).end.0
+use Rattle.allocation.specs.Allocation.{past_unit}
 
 -- a unit that was picked, with the price of its next grain
 abbrev pub priced : (ℕ → ℕ) → Option ℕ → Option (ℕ × ℕ)
 priced next none = none
 priced next (at u) = at (u, next u)
 
--- the offer and the commitment of a unit with a ceiling over 0 keep their ranges
-abbrev pub Offered : List Offer → List HubKwh → List HubGrains → Type 0
-Offered offers commitments ceilings =
-    (u : ℕ) → u < 8 → 0 < grains_at ceilings u
-    → (offer_holds (get_or offers u past_offer) ≡ true) × ((get_or commitments u (record { 0 = 0 })).0 ≤ 1000000000)
+-- what an index past the end reads; unit u in the fill
+abbrev pub no_filling : Filling
+no_filling = record { ceiling = record { 0 = 0 }; energy = record { 0 = 0 }; next = record { price = 0; end = record { 0 = 0 } } }
 
--- unit u, if it has room above its i grains, has the block that starts there
-abbrev pub HasBlock : List Offer → List HubKwh → List HubGrains → List Block → ℕ → ℕ → Type 0
-HasBlock offers commitments ceilings blocks u i =
-    i < grains_at ceilings u
-    → IsBlock (get_or offers u past_offer) (get_or commitments u (record { 0 = 0 })) i (grains_at ceilings u) (block_price blocks u)
-    (block_end blocks u)
+abbrev pub filling_at : List Filling → ℕ → Filling
+filling_at fillings u = get_or fillings u no_filling
+
+-- the price of a unit's next block
+abbrev pub next_price : List Filling → ℕ → ℕ
+next_price fillings u = (filling_at fillings u).next.price
+
+-- whether a unit has room below its ceiling
+abbrev pub has_room : List Filling → ℕ → Bool
+has_room fillings u = ltb (filling_at fillings u).energy.0 (filling_at fillings u).ceiling.0
+
+-- what each unit has so far
+abbrev pub given : List Filling → List HubGrains
+given fillings = tabulate 8 (λ k. (filling_at fillings k).energy)
+
+-- a unit with room has the block that starts at its next grain
+abbrev pub HasBlock : PlantUnit → Filling → Type 0
+HasBlock u f = f.energy.0 < f.ceiling.0 → IsBlock u.offer u.commitment f.energy.0 f.ceiling.0 f.next.price f.next.end.0
+
+-- each unit has its ceiling, and its next block
+abbrev pub Fillings : List PlantUnit → List HubGrains → List Filling → Type 0
+Fillings units ceilings fillings =
+    (u : ℕ) → u < 8
+    → ((filling_at fillings u).ceiling ≡ get_or ceilings u (record { 0 = 0 })) × HasBlock (get_or units u past_unit) (filling_at fillings u)
+
+-- the offer and the commitment of a unit with a ceiling over 0 keep their ranges
+abbrev pub Offered : List PlantUnit → List HubGrains → Type 0
+Offered units ceilings =
+    (u : ℕ) → u < 8 → 0 < grains_at ceilings u
+    → (offer_holds (get_or units u past_unit).offer ≡ true) × ((get_or units u past_unit).commitment.0 ≤ 1000000000)

@@ -1,9 +1,9 @@
 // Largest remainder: a total divided among any number of parts by their weights.
 #![tactic(auto)]
 
-ghost use Rattle.std.specs.Prelude.{◌≡◌, ◌^◌, ◌<◌, length, sum};
+ghost use Rattle.std.specs.Prelude.{◌≡◌, ◌*◌, ◌/◌, ◌%◌, ◌^◌, ◌<◌, cond, eqb, length, sum};
 ghost use Rattle.finite.specs.Finite.{tabulate};
-ghost use Rattle.apportion.specs.Shares.{remainder_left, sum_of, quotient, remainder, shares as the_shares, largest as the_largest, add_ones, Fits, Due};
+ghost use Rattle.apportion.specs.Shares.{sum_of, quotient, remainder, shares as the_shares, largest as the_largest, add_ones, Fits, Due};
 
 // A total to be divided by weights, of which some is over 0: `all` is what they add up to.
 #[derive(Drop)]
@@ -23,13 +23,13 @@ fn sum_of(s: &[u64]) -> u64
 }
 
 impl Division<'_> {
-    // A part's remainder, or 0 once the part has more than its quotient.
-    fn remainder_left(&self, shares: &[u64], i: usize) -> u64
-        requires { (i < length self.now.weights.now) × (i < length shares.now) }
-        ensures { result ≡ remainder_left (quotient self.now.all self.now.total self.now.weights.now) (remainder self.now.all self.now.total self.now.weights.now) shares.now i }
+    // A part's remainder by its weight, or 0 once the part has more than its quotient.
+    fn remainder_left(&self, weight: u64, share: u64) -> u64
+        requires { self.now.total * weight < 2 ^ 64 }
+        ensures { result ≡ cond (eqb share (self.now.total * weight / self.now.all)) (self.now.total * weight % self.now.all) 0 }
     {
-        let x = self.total * self.weights[i];
-        if shares[i] == x / self.all {
+        let x = self.total * weight;
+        if share == x / self.all {
             return x % self.all;
         }
         0
@@ -41,9 +41,9 @@ impl Division<'_> {
         ensures { result ≡ the_largest (quotient self.now.all self.now.total self.now.weights.now) (remainder self.now.all self.now.total self.now.weights.now) shares.now (length self.now.weights.now) }
     {
         let mut part = 0;
-        let mut most = self.remainder_left(shares, 0);
+        let mut most = self.remainder_left(self.weights[0], shares[0]);
         for i in 1..self.weights.len() {
-            let x = self.remainder_left(shares, i);
+            let x = self.remainder_left(self.weights[i], shares[i]);
             if most < x {
                 part = i;
                 most = x;
@@ -74,7 +74,7 @@ impl Division<'_> {
     }
 }
 
-// The shares of a total by weights, one for each part.
+// The shares of a total by weights, one for each part, into a list of the caller's: a library has no heap.
 pub fn apportion(weights: &[u64], total: u64, shares: &mut [u64])
     requires { (length shares.old ≡ length weights.now) × (sum_of weights.now < 2 ^ 64) × Fits weights.now total }
     ensures { shares.new ≡ the_shares weights.now total }

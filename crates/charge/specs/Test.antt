@@ -1,15 +1,11 @@
 -- Item 4, the test, in Rial: 01, Five items, sentence by sentence. The differences of natural numbers below stop at 0, as 01's max(.., 0) says.
-use Rattle.std.specs.Prelude.{ℕ, ◌+◌, ◌*◌, ◌-◌, ◌/◌, ◌^◌, ◌≤◌, ◌<◌, min, Bool, true, false, cond, ◌||◌, Option, Some, None, List, [], ◌∷◌, ltb, eqb, get_or}
+use Rattle.std.specs.Prelude.{ℕ, ◌+◌, ◌*◌, ◌-◌, ◌/◌, ◌^◌, ◌≤◌, ◌<◌, min, Bool, true, false, cond, ◌&&◌, ◌||◌, Option, Some, None, List, [], ◌∷◌, ltb, eqb, get_or}
 use Rattle.finite.specs.Finite.{sum}
 use Rattle.energy.specs.declared.NetKwh.{NetKwh}
 use Rattle.energy.specs.declared.HubGrains.{HubGrains}
 use Rattle.formulas.specs.declared.Deviations.{Deviations}
 use Rattle.formulas.specs.Items.{kinds, deviation_at, deviation_of}
 use Rattle.charge.specs.declared.KindWeight.{KindWeight}
-
--- for the code: none is over 10^9
-abbrev pub Bounded : Deviations → Type 0
-Bounded d = (j : ℕ) → j < kinds → (deviation_at d j).0 ≤ 1000000000
 
 -- "4. Test: .. q = d2 + d3 + (1 − repair) × d6. .. W = 10 d2 + 5 d3 + 10 (1 − repair) d6"; 02, wish 1: "q gains d8 and W gains 3 × d8". First
 -- as they are written there, then by a table of the kinds; `counted_is` and `weighted_is` (proofs/Weights.antt) say that both are the same
@@ -60,6 +56,22 @@ weighted_part d repair j = counted_at d repair j * (kind_weight j).tenths
 
 unfoldable pub weighted : Deviations → ℕ → ℕ
 weighted d repair = sum kinds (weighted_part d repair)
+
+-- for the code: the same of one kind, by whether `repair` is over 0; `q_same` and `w_same` (proofs/Weights.antt) say so
+abbrev pub counted_of : KindWeight → NetKwh → Bool → ℕ
+counted_of kind deviation repaired = cond (kind.exempt && repaired) 0 deviation.0
+
+abbrev pub in_q : KindWeight → NetKwh → Bool → ℕ
+in_q kind deviation repaired = cond (eqb kind.tenths 0) 0 (counted_of kind deviation repaired)
+
+abbrev pub in_w : KindWeight → NetKwh → Bool → ℕ
+in_w kind deviation repaired = counted_of kind deviation repaired * kind.tenths
+
+abbrev pub q_part : Deviations → Bool → ℕ → ℕ
+q_part d repaired j = in_q (kind_weight j) (deviation_at d j) repaired
+
+abbrev pub w_part : Deviations → Bool → ℕ → ℕ
+w_part d repaired j = in_w (kind_weight j) (deviation_at d j) repaired
 
 -- "b = W × 125 × cpf × bar / 10^9 down"
 unfoldable pub base_charge : ℕ → ℕ → ℕ → ℕ

@@ -45,6 +45,15 @@ pub trait Energy: Copy {
     {
         Self::of(self.amount().saturating_sub(other.amount()))
     }
+
+    // Its product with a number that is no energy, which is no energy either: a weight by minutes or tenths, or an
+    // undivided cost by a price.
+    final fn product(self, factor: u64) -> u64
+        requires { amount self * factor < 2 ^ 64 }
+        ensures { result ≡ amount self * factor }
+    {
+        self.amount() * factor
+    }
 }
 
 impl Energy for GrossKwh {
@@ -102,10 +111,10 @@ impl Energy for HubGrains {
 // Net of gross: less the unit's own use, in ten-thousandths.
 #[tactic(auto, unfolding(crate::specs::Energy::net_of))]
 pub fn net_of(gross: GrossKwh, own: u64) -> NetKwh
-    requires { (gross.0 ≤ 1000000000) × (own ≤ 10000) }
+    requires { gross.0 ≤ 1000000000 }
     ensures { result ≡ net_of gross own }
 {
-    let kept = 10000 - own;
+    let kept = 10000u64.saturating_sub(own);
     let product = gross.0 * kept;
     NetKwh(product / 10000)
 }
@@ -113,17 +122,17 @@ pub fn net_of(gross: GrossKwh, own: u64) -> NetKwh
 // Hub energy of net energy at the gate: less the plant's loss, in ten-thousandths.
 #[tactic(auto, unfolding(crate::specs::Energy::hub_of))]
 pub fn hub_of(net: NetKwh, loss: u64) -> HubGrains
-    requires { (net.0 ≤ 1000000000) × (loss ≤ 10000) }
+    requires { net.0 ≤ 1000000000 }
     ensures { result ≡ hub_of net loss }
 {
-    let kept = 10000 - loss;
+    let kept = 10000u64.saturating_sub(loss);
     let product = net.0 * kept;
     HubGrains(product)
 }
 
 // Gate energy of a commitment.
 pub fn gate_of(commitment: HubKwh, loss: u64) -> NetKwh
-    requires { (commitment.0 ≤ 1000000000) × (loss < 10000) }
+    requires { (commitment.0 * 10000 < 2 ^ 64) × (loss < 10000) }
     ensures { result ≡ gate_of commitment loss }
 {
     let kept = 10000 - loss;
@@ -167,23 +176,5 @@ impl NetKwh {
         ensures { result.0 ≡ factor * self.0 }
     {
         NetKwh(factor * self.0)
-    }
-
-    // Its product with minutes or with tenths, which is no energy: what a proportion or a charge goes by.
-    pub fn weight(self, factor: u64) -> u64
-        requires { self.0 * factor < 2 ^ 64 }
-        ensures { result ≡ self.0 * factor }
-    {
-        self.0 * factor
-    }
-}
-
-impl HubGrains {
-    // What so many grains cost at one price in Rial/MWh, undivided: 10^7 times the Rial.
-    pub fn cost(self, price: u64) -> u64
-        requires { self.0 * price < 2 ^ 64 }
-        ensures { result ≡ self.0 * price }
-    {
-        self.0 * price
     }
 }

@@ -1,7 +1,7 @@
 -- The blocks of a modified offer: a grain below the commitment costs nothing; past it the steps are passed one by one until one reaches
 -- beyond the grain, and the last one has no end.
 -- Assumes nothing.
-use mathlib.Core.Path.{◌≡◌, ◌∙◌, ap}
+use mathlib.Core.Path.{◌≡◌, ◌∙◌, ap, sym}
 use Prim.Native.Nat.{ℕ, zero, suc, ◌+◌, ◌-◌, ◌<◌, ◌≤◌}
 use native.Mathlib.Omega.{arith}
 use borrow.Author.Tests.{lt-ltb, le-ltb}
@@ -40,6 +40,13 @@ module _ (o : Offer) where
       h j lj
       ∙ passed s (o.steps - 1 - s) j (omega arith) (omega arith)
       ∙ ap (λ (n : ℕ). price_from o (s + 1) n j) e
+
+  -- each of the first s steps ends at or before grain i
+  pub passed_all : (i s : ℕ) → s ≤ o.steps - 1 → ((t : ℕ) → t < s → (grains_of (quantity_at o t)).0 ≤ i) → Passed i s
+  passed_all i zero l ends j k = let e : o.steps - 1 - 0 ≡ o.steps - 1 = omega arith in ap (λ (n : ℕ). price_from o 0 n j) (sym e)
+  passed_all i (suc s) l ends j k =
+      let e : suc s ≡ s + 1 = omega arith in
+      rw e (onward i s (omega arith) (ends s (omega arith)) (passed_all i s (omega arith) (λ t m. ends t (omega arith))) j k)
 
   module _ (commitment : HubKwh) where
     -- below the commitment the price is 0, past it the step's

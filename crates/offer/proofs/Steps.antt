@@ -8,7 +8,7 @@ use borrow.Author.Tests.{ltb-true, leb-true, lt-ltb, le-leb}
 use lib.Dec.{ltb, leb}
 use Rattle.finite.specs.Finite.{every}
 use Rattle.finite.proofs.Tests.{and_left, and_right, and_both, every_at, every_all}
-use Rattle.energy.specs.declared.HubKwh.{HubKwh}
+use Rattle.offer.specs.declared.Step.{Step}
 use Rattle.offer.specs.declared.Offer.{Offer}
 use Rattle.offer.specs.Offer.{quantity_at, step_price, steps_allowed, in_range, step_in_range, in_order, step_in_order, offer_holds, last_quantity}
 
@@ -27,16 +27,17 @@ pub allowed : (steps : ℕ) → steps_allowed steps ≡ true → (1 ≤ steps) �
 unfolding steps_allowed
 allowed steps t = (leb-true _ _ (and_left _ _ t), leb-true _ _ (and_right (leb 1 steps) _ t))
 
-range_facts : (q : HubKwh) (p : ℕ) → in_range q p ≡ true → (1 ≤ q.0) × (q.0 ≤ 1000000) × (p ≤ 10000000)
+range_facts : (step : Step) → in_range step ≡ true → (1 ≤ step.quantity.0) × (step.quantity.0 ≤ 1000000) × (step.price ≤ 10000000)
 unfolding in_range
-range_facts q p t =
+range_facts step t =
+    let q = step.quantity.0 in
     let range = and_left _ _ t in
-    (leb-true _ _ (and_left _ _ range), leb-true _ _ (and_right (leb 1 q.0) _ range), leb-true _ _ (and_right (leb 1 q.0 && leb q.0 1000000) _ t))
+    (leb-true _ _ (and_left _ _ range), leb-true _ _ (and_right (leb 1 q) _ range), leb-true _ _ (and_right (leb 1 q && leb q 1000000) _ t))
 
-order_facts : (q : HubKwh) (p : ℕ) (r : HubKwh) (n : ℕ) → in_order q p r n ≡ true → (q.0 < r.0) × (p ≤ n)
+order_facts : (step next : Step) → in_order step next ≡ true → (step.quantity.0 < next.quantity.0) × (step.price ≤ next.price)
 unfolding in_order
-order_facts q p r n t =
-    (ltb-true _ _ (and_left _ _ t), leb-true _ _ (and_right (ltb q.0 r.0) _ t))
+order_facts step next t =
+    (ltb-true _ _ (and_left _ _ t), leb-true _ _ (and_right (ltb step.quantity.0 next.quantity.0) _ t))
 
 module _ (o : Offer) where
   pub holds : offer_holds o ≡ true → Holds o
@@ -49,11 +50,11 @@ module _ (o : Offer) where
       record {
         least = (allowed o.steps number).0;
         most = (allowed o.steps number).1;
-        quantity_least = λ s l. (range_facts _ _ (range s l)).0;
-        quantity_most = λ s l. (range_facts _ _ (range s l)).1;
-        price_most = λ s l. (range_facts _ _ (range s l)).2;
-        quantity_rises = λ s l. (order_facts _ _ _ _ (order s (omega arith))).0;
-        price_rises = λ s l. (order_facts _ _ _ _ (order s (omega arith))).1;
+        quantity_least = λ s l. (range_facts _ (range s l)).0;
+        quantity_most = λ s l. (range_facts _ (range s l)).1;
+        price_most = λ s l. (range_facts _ (range s l)).2;
+        quantity_rises = λ s l. (order_facts _ _ (order s (omega arith))).0;
+        price_rises = λ s l. (order_facts _ _ (order s (omega arith))).1;
       }
 
   pub holds_back : Holds o → offer_holds o ≡ true

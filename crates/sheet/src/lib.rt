@@ -82,7 +82,7 @@ pub fn monthly_of(sheet: &Sheet) -> [GrossKwh; 8]
 fn offers_hold(u: &UnitSheet) -> bool
     ensures { result ≡ every 24 (λ h. offer_holds (offer_at u.now h)) }
 {
-    u.offers.iter().all(|o| offer::offer_holds(*o))
+    u.offers.iter().all(offer::offer_holds)
 }
 
 // Whether a unit's values keep their ranges and orders.

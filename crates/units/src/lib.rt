@@ -1,7 +1,7 @@
 // The plant's units, read off the sheet's mask: bit n - 1 stands for unit n, whose place is n - 1.
 #![tactic(auto)]
 
-ghost use Rattle.std.specs.Prelude.{◌≡◌, ◌<◌};
+ghost use Rattle.std.specs.Prelude.{◌≡◌, ◌<◌, cond};
 ghost use Rattle.units.specs.Units.{is_member, member_at, members, unit_count, is_lowest};
 
 // Whether unit n is in the plant.
@@ -18,6 +18,17 @@ pub fn member_at(units: u64, k: usize) -> bool
     ensures { result ≡ member_at units k }
 {
     k < 8 && has_unit(units, k as u64 + 1)
+}
+
+// The first value where the unit of place k is in the plant, the other outside it.
+pub fn member_or<T: Copy>(units: u64, k: usize, value: T, otherwise: T) -> T
+    ensures { result ≡ cond (member_at units k) value otherwise }
+{
+    if member_at(units, k) {
+        value
+    } else {
+        otherwise
+    }
 }
 
 // The number of units in the plant.

@@ -4,7 +4,7 @@ use mathlib.Core.Path.{sym, subst, ◌∙◌, ap}
 use mathlib.Core.List.{List}
 use Rattle.energy.specs.declared.HubGrains.{HubGrains}
 use Rattle.allocation.specs.Fill.{grains_at, fill}
-use Rattle.allocation.specs.Allocation.{ceilings, prices_of, price_of, energies_is}
+use Rattle.allocation.specs.Allocation.{ceilings, price_of, energies_is}
 use Rattle.allocation.specs.Blocks.{Offered}
 use Rattle.allocation.proofs.Weights.{offered}
 use Rattle.allocation.proofs.allocate.Goals as goal
@@ -12,16 +12,16 @@ use Rattle.allocation.proofs.allocate.Goals as goal
 pub fill-requires : goal.fill-requires
 fill-requires c =
     let a = c.args in
-    subst (λ (l : List HubGrains). Offered a.plant.offer a.plant.commitment l) (sym c.ceilings-limits.ensures)
-    (offered a.plant c.requires.1 a.net a.reverse)
+    subst (λ (l : List HubGrains). Offered a.plant.now.unit l) (sym c.ceilings-limits.ensures) (offered a.plant.now c.requires.1 a.net a.reverse)
 
 pub returns : goal.returns
 unfolding price_of
 returns c =
     let a = c.args in
+    let plant = a.plant.now in
     let total = c.plant_energy-total in
-    let p = prices_of a.plant.offer a.plant.commitment in
+    let p = price_of plant in
     c.fill.ensures
     ∙ (ap (λ (l : List HubGrains). fill p (grains_at l) 8 total.result.0) c.ceilings-limits.ensures
-    ∙ (ap (λ (g : HubGrains). fill p (grains_at (ceilings a.net a.reverse a.plant)) 8 g.0) total.ensures
-    ∙ sym (energies_is a.net a.reverse a.plant)))
+    ∙ (ap (λ (g : HubGrains). fill p (grains_at (ceilings a.net a.reverse plant)) 8 g.0) total.ensures
+    ∙ sym (energies_is a.net a.reverse plant)))

@@ -4,7 +4,6 @@ use mathlib.Core.Path.{◌≡◌, sym, ◌∙◌, ap}
 use mathlib.Core.Bool.{cond}
 use mathlib.Core.List.{List}
 use Prim.Native.Nat.{ℕ, ◌+◌, ◌-◌}
-use native.Mathlib.Omega.{arith}
 use lib.Dec.{eqb}
 use lib.ListN.{length, get_or}
 use Rattle.finite.specs.Finite.{tabulate}
@@ -22,8 +21,8 @@ use Rattle.allocation.proofs.ceilings.Goals as goal
 -- the code's steps are the definitions
 excess-here : (c : After-hub_of-excess) →
     let a = c.args in
-    c.hub_of-excess.result ≡ excess a.net a.reverse a.plant
-unfolding excess net_energy real_sum
+    c.hub_of-excess.result ≡ excess a.net a.reverse a.plant.now
+unfolding excess net_energy
 excess-here c =
     let a = c.args in
     let reals = c.real_sum-reals in
@@ -31,17 +30,15 @@ excess-here c =
     c.above-2.ensures
     ∙ (ap (λ (n : ℕ). n - reals.result.0) c.above.ensures
     ∙ ap (λ (r : NetKwh). a.net.0 - a.reverse.0 - r.0) reals.ensures) in
-    let n : c.above-2.result ≡ above (above a.net a.reverse) (real_sum a.plant) = λ i. record { 0 = e i } in
-    c.hub_of-excess.ensures ∙ ap (λ (n : NetKwh). hub_of n a.plant.loss) n
+    let n : c.above-2.result ≡ above (above a.net a.reverse) (real_sum a.plant.now) = λ i. record { 0 = e i } in
+    c.hub_of-excess.ensures ∙ ap (λ (n : NetKwh). hub_of n a.plant.now.loss) n
 
-weights-here : (c : After-weights_of-weights) → c.weights_of-weights.result ≡ tabulate 8 (weight_at c.args.plant)
-unfolding weight_at real_sum
+weights-here : (c : After-weights_of-weights) → c.weights_of-weights.result ≡ tabulate 8 (weight_at c.args.plant.now)
+unfolding weight_at
 weights-here c =
-    let plant = c.args.plant in
+    let plant = c.args.plant.now in
     c.weights_of-weights.ensures
-    ∙ ap
-    (λ (r : NetKwh). tabulate 8 (λ (k : ℕ). cond (eqb r.0 0) (gross_at plant.units plant.nominal k).0 (net_at plant.units plant.real k).0))
-    c.real_sum-reals.ensures
+    ∙ ap (λ (r : NetKwh). tabulate 8 (λ (k : ℕ). cond (eqb r.0 0) (gross_at plant k).0 (net_at plant k).0)) c.real_sum-reals.ensures
 
 module _ (net reverse : NetKwh) (plant : Plant) (x : HubGrains) (w : List ℕ) where
   shares_here : x ≡ excess net reverse plant → w ≡ tabulate 8 (weight_at plant) → shares w x.0 ≡ excess_shares net reverse plant
@@ -49,25 +46,24 @@ module _ (net reverse : NetKwh) (plant : Plant) (x : HubGrains) (w : List ℕ) w
   shares_here e f = ap (λ (w : List ℕ). shares w x.0) f ∙ ap (λ (g : HubGrains). shares (tabulate 8 (weight_at plant)) g.0) e
 
 pub real_sum-reals-requires : goal.real_sum-reals-requires
-real_sum-reals-requires c = real_most c.args.plant c.requires.1
+real_sum-reals-requires c = real_most c.args.plant.now c.requires.1
 
 pub apportion-requires : goal.apportion-requires
 apportion-requires c =
-    let f = weights_fit c.args.plant c.requires.1 c.args.net c.args.reverse c.requires.0 in
+    let f = weights_fit c.args.plant.now c.requires.1 c.args.net c.args.reverse c.requires.0 in
     let w = weights-here (goal.at.apportion-requires c).After-weights_of-weights in
-    (sym (ap length w ∙ length_tabulate 8 (weight_at c.args.plant)), rw w f.0, rw w (rw (ap (λ (g : HubGrains). g.0) (excess-here (goal.at.apportion-requires c).After-hub_of-excess)) f.1))
+    (sym (ap length w ∙ length_tabulate 8 (weight_at c.args.plant.now)), rw w f.0, rw w (rw (ap (λ (g : HubGrains). g.0) (excess-here (goal.at.apportion-requires c).After-hub_of-excess)) f.1))
 
 pub with_shares-requires : goal.with_shares-requires
 with_shares-requires c = (
-  real_most c.args.plant c.requires.1,
-  rw (c.apportion.ensures ∙ shares_here _ _ _ _ _ (excess-here (goal.at.with_shares-requires c).After-hub_of-excess) (weights-here (goal.at.with_shares-requires c).After-weights_of-weights)) (share_most c.args.plant c.requires.1 c.args.net c.args.reverse c.requires.0),
-  omega (arith, c.requires.1.lost),
+  real_most c.args.plant.now c.requires.1,
+  rw (c.apportion.ensures ∙ shares_here _ _ _ _ _ (excess-here (goal.at.with_shares-requires c).After-hub_of-excess) (weights-here (goal.at.with_shares-requires c).After-weights_of-weights)) (share_most c.args.plant.now c.requires.1 c.args.net c.args.reverse c.requires.0),
 )
 
 pub returns : goal.returns
 unfolding ceiling_at
 returns c =
-    let plant = c.args.plant in
-    let ceiling : List ℕ → ℕ → HubGrains = λ shares k. record { 0 = (hub_of (net_at plant.units plant.real k) plant.loss).0 + get_or shares k 0 } in
+    let plant = c.args.plant.now in
+    let ceiling : List ℕ → ℕ → HubGrains = λ shares k. record { 0 = (hub_of (net_at plant k) plant.loss).0 + get_or shares k 0 } in
     c.with_shares.ensures
     ∙ (ap (λ (l : List ℕ). tabulate 8 (ceiling l)) (c.apportion.ensures ∙ shares_here _ _ _ _ _ (excess-here (goal.at.returns c).After-hub_of-excess) (weights-here (goal.at.returns c).After-weights_of-weights)) ∙ sym (ceilings_is _ _ plant))

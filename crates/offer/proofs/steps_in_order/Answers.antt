@@ -7,5 +7,5 @@ use Rattle.offer.proofs.steps_in_order.Goals as goal
 
 pub returns : goal.returns
 returns c =
-    let o = c.args.offer in
+    let o = c.args.offer.now in
     every_range (step_in_order o) (o.steps - 1) _ (search rules) c.all.ensures.ran (λ x y q k. search rules)

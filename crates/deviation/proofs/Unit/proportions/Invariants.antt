@@ -1,6 +1,5 @@
-use Rattle.record.proofs.Counted.{counted_in as kind-in}
 use Rattle.deviation.proofs.Weights.{Counted}
 use Rattle.deviation.proofs.Unit.proportions.Given as goal
 
 abbrev pub invariant-loop-span : goal.invariant-loop-span
-invariant-loop-span l = Counted l.fn.self.own l.fn.self.hour l.span-index l.sums
+invariant-loop-span l = Counted l.fn.self.own l.fn.self.hour.now l.span-index l.sums
