@@ -3,17 +3,17 @@
 -- Assumes nothing.
 use mathlib.Core.Path.{◌≡◌, refl}
 use mathlib.Core.Bool.{Bool, true, false, cond}
-use Prim.Native.Nat.{ℕ, ◌+◌, ◌*◌, ◌-◌, ◌^◌, ◌≤◌, ◌<◌}
+use Prim.Native.Nat.{ℕ, ◌*◌, ◌-◌, ◌^◌, ◌≤◌, ◌<◌}
 use native.Mathlib.Nat.{mul-le-mul, mul-le-mul_right}
 use native.Mathlib.Omega.{arith}
 use borrow.Author.Tests.{leb-true}
 use lib.Dec.{leb, eqb}
 use Rattle.finite.specs.Finite.{sum, every}
-use Rattle.finite.proofs.Sums.{sum_most, sum_has}
+use Rattle.finite.proofs.Sums.{sum_has}
 use Rattle.finite.proofs.Tests.{every_at}
 use Rattle.formulas.specs.declared.Deviations.{Deviations}
 use Rattle.formulas.specs.Items.{kinds, deviation_at}
-use Rattle.charge.specs.Test.{Bounded, written_q, written_w, kind_weights, kind_weight, counted_at, counted_part, counted_deviation, weighted_part, weighted}
+use Rattle.charge.specs.Test.{written_q, written_w, kind_weights, kind_weight, counted_at, counted_part, counted_deviation, weighted_part, weighted}
 
 pub counted_is : (d : Deviations) (repair : ℕ) → (counted_deviation d repair).0 ≡ written_q d repair
 unfolding counted_deviation counted_at kind_weight kind_weights sum
@@ -39,32 +39,14 @@ module _ (d : Deviations) (repair : ℕ) where
   pub part_most : (j : ℕ) → j < kinds → weighted_part d repair j ≤ 10 * (deviation_at d j).0
   part_most j l = omega (arith, mul-le-mul (counted_le j) (tenths_most j l))
 
-  counted_most : (j : ℕ) → counted_part d repair j ≤ (deviation_at d j).0
+  pub counted_most : (j : ℕ) → counted_part d repair j ≤ (deviation_at d j).0
   counted_most j = by (eqb (kind_weight j).tenths 0)
     where
       by : (t : Bool) → cond t 0 (counted_at d repair j) ≤ (deviation_at d j).0
       by true = omega arith
       by false = counted_le j
 
-  -- the sums of the first kinds are machine numbers
-  module _ (bounded : Bounded d) where
-    pub counted_fits : (j : ℕ) → j < kinds → sum j (counted_part d repair) + counted_part d repair j < 2 ^ 64
-    unfolding sum
-    counted_fits j l =
-        omega (
-          arith,
-          sum_has kinds j (counted_part d repair) l,
-          sum_most 0 kinds (counted_part d repair) (omega arith) 1000000000 (λ i a b. omega (arith, counted_most i, bounded i b)),
-        )
-
-    pub part_fits : (j : ℕ) → j < kinds → weighted_part d repair j ≤ 10000000000
-    part_fits j l = omega (arith, part_most j l, bounded j l)
-
-    pub weighted_fits : (j : ℕ) → j < kinds → sum j (weighted_part d repair) + weighted_part d repair j < 2 ^ 64
-    unfolding sum
-    weighted_fits j l =
-        omega (
-          arith,
-          sum_has kinds j (weighted_part d repair) l,
-          sum_most 0 kinds (weighted_part d repair) (omega arith) 10000000000 (λ i a b. part_fits i b),
-        )
+  -- a part of W is no more than W
+  pub part_fits : weighted d repair < 2 ^ 64 → (j : ℕ) → j < kinds → weighted_part d repair j < 2 ^ 64
+  unfolding weighted
+  part_fits fits j l = omega (arith, sum_has kinds j (weighted_part d repair) l, fits)

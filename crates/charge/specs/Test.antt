@@ -7,10 +7,6 @@ use Rattle.formulas.specs.declared.Deviations.{Deviations}
 use Rattle.formulas.specs.Items.{kinds, deviation_at, deviation_of}
 use Rattle.charge.specs.declared.KindWeight.{KindWeight}
 
--- for the code: none is over 10^9
-abbrev pub Bounded : Deviations → Type 0
-Bounded d = (j : ℕ) → j < kinds → (deviation_at d j).0 ≤ 1000000000
-
 -- "4. Test: .. q = d2 + d3 + (1 − repair) × d6. .. W = 10 d2 + 5 d3 + 10 (1 − repair) d6"; 02, wish 1: "q gains d8 and W gains 3 × d8". First
 -- as they are written there, then by a table of the kinds; `counted_is` and `weighted_is` (proofs/Weights.antt) say that both are the same
 abbrev pub written_q : Deviations → ℕ → ℕ
@@ -34,11 +30,17 @@ kind_weights =
 unfoldable pub kind_weight : ℕ → KindWeight
 kind_weight j = get_or kind_weights j (record { tenths = 0; exempt = false })
 
--- what counts of a deviation: "(1 − repair) × d6" where `repair` exempts its kind, else all
+-- what counts of a kind's deviation: "(1 − repair) × d6" where `repair` exempts the kind, else all
+abbrev pub counted_of : KindWeight → NetKwh → ℕ → ℕ
+counted_of kind deviation repair = cond kind.exempt ((1 - repair) * deviation.0) deviation.0
+
 unfoldable pub counted_at : Deviations → ℕ → ℕ → ℕ
-counted_at d repair j = cond (kind_weight j).exempt ((1 - repair) * (deviation_at d j).0) (deviation_at d j).0
+counted_at d repair j = counted_of (kind_weight j) (deviation_at d j) repair
 
 -- q: what counts of the kinds that have a weight
+abbrev pub in_q : KindWeight → NetKwh → ℕ → ℕ
+in_q kind deviation repair = cond (eqb kind.tenths 0) 0 (counted_of kind deviation repair)
+
 abbrev pub counted_part : Deviations → ℕ → ℕ → ℕ
 counted_part d repair j = cond (eqb (kind_weight j).tenths 0) 0 (counted_at d repair j)
 
@@ -55,6 +57,9 @@ unfoldable pub is_charged : NetKwh → Option NetKwh → HubGrains → ℕ → B
 is_charged q reading energy loss = ltb 2000 q.0 || over_reading q reading energy loss
 
 -- W: what counts of each kind, times its weight
+abbrev pub in_w : KindWeight → NetKwh → ℕ → ℕ
+in_w kind deviation repair = counted_of kind deviation repair * kind.tenths
+
 abbrev pub weighted_part : Deviations → ℕ → ℕ → ℕ
 weighted_part d repair j = counted_at d repair j * (kind_weight j).tenths
 

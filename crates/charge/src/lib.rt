@@ -1,12 +1,14 @@
 // Item 4, the test: the counted and the weighted deviation, whether it is charged, and the charge.
 #![tactic(auto)]
 
-ghost use Rattle.std.specs.Prelude.{◌≡◌, ◌≤◌, ◌<◌};
+ghost use Rattle.std.specs.Prelude.{◌≡◌, ◌≤◌, ◌<◌, ◌^◌, ℕ};
+ghost use Rattle.finite.specs.Finite.{tabulate};
 ghost use Rattle.formulas.specs.Items.{kinds};
-ghost use Rattle.charge.specs.Test.{Bounded, kind_weight, counted_at, counted_part, counted_deviation, is_charged, weighted as the_weighted, base_charge, growth as the_growth, hours_counted, charge_of, NearExact};
+ghost use Rattle.charge.specs.Test.{counted_of, in_q, in_w, counted_part, counted_deviation, is_charged, weighted_part, weighted as the_weighted, base_charge, growth as the_growth, hours_counted, charge_of, NearExact};
 
 use energy::{Energy, HubGrains, NetKwh};
 use formulas::{AvailabilityRate, Deviations, KINDS};
+use std::array;
 
 // How a kind is charged: the tenths of its deviation that W takes, 0 where it is not charged, and whether `repair` exempts it.
 #[derive(Clone, Copy)]
@@ -54,56 +56,58 @@ const KIND_WEIGHTS: [KindWeight; KINDS] = [
     },
 ];
 
+impl KindWeight {
+    // What counts of a deviation of the kind: nothing on a repair day that exempts it.
+    fn counted(self, deviation: NetKwh, repair: u64) -> NetKwh
+        ensures { result.0 ≡ counted_of self deviation repair }
+    {
+        if repair != 0 && self.exempt {
+            return NetKwh(0);
+        }
+        deviation
+    }
+
+    // What q takes of it: nothing of a kind without a weight.
+    #[tactic(auto, using(std::proofs::lemmas::Bool::Decides::nat_tests))]
+    fn in_q(self, deviation: NetKwh, repair: u64) -> u64
+        ensures { result ≡ in_q self deviation repair }
+    {
+        if self.tenths == 0 {
+            return 0;
+        }
+        self.counted(deviation, repair).amount()
+    }
+
+    // What W takes of it.
+    fn in_w(self, deviation: NetKwh, repair: u64) -> u64
+        requires { in_w self deviation repair < 2 ^ 64 }
+        ensures { result ≡ in_w self deviation repair }
+    {
+        self.counted(deviation, repair).product(self.tenths)
+    }
+}
+
+// What q takes of each kind.
 #[tactic(auto, unfolding(crate::specs::Test::kind_weights, crate::specs::Test::kind_weight))]
-fn kind_weight(j: usize) -> KindWeight
-    requires { j < kinds }
-    ensures { result ≡ kind_weight j }
+fn counted_parts(d: Deviations, repair: u64) -> [u64; KINDS]
+    ensures { result ≡ tabulate kinds (counted_part d repair) }
 {
-    KIND_WEIGHTS[j]
-}
-
-// What counts of the deviation at index j: nothing on a repair day that exempts its kind.
-#[tactic(auto, unfolding(crate::specs::Test::counted_at))]
-fn counted_at(d: Deviations, repair: u64, j: usize) -> NetKwh
-    requires { j < kinds }
-    ensures { result.0 ≡ counted_at d repair j }
-{
-    if repair != 0 && kind_weight(j).exempt {
-        return NetKwh(0);
-    }
-    d.kwh[j]
-}
-
-// What q takes of it: nothing of a kind without a weight.
-#[tactic(auto, using(std::proofs::lemmas::Bool::Decides::nat_tests))]
-fn counted_part(d: Deviations, repair: u64, j: usize) -> NetKwh
-    requires { j < kinds }
-    ensures { result.0 ≡ counted_part d repair j }
-{
-    if kind_weight(j).tenths == 0 {
-        return NetKwh(0);
-    }
-    counted_at(d, repair, j)
+    array::from_fn(|j| KIND_WEIGHTS[j].in_q(d.kwh[j], repair))
 }
 
 // The counted deviation q.
-#[tactic(auto, using(finite::proofs::Sums::sum_next, crate::proofs::Weights::counted_fits), unfolding(finite::specs::Finite::sum, crate::specs::Test::counted_deviation))]
+#[tactic(auto, unfolding(crate::specs::Test::counted_deviation))]
 pub fn counted_deviation(d: Deviations, repair: u64) -> NetKwh
-    requires { Bounded d }
+    requires { (counted_deviation d repair).0 < 2 ^ 64 }
     ensures { result ≡ counted_deviation d repair }
 {
-    let mut q = NetKwh(0);
-    for j in 0..KINDS {
-        q = q.plus(counted_part(d, repair, j));
-    }
-    q
+    NetKwh(counted_parts(d, repair).iter().sum())
 }
 
 // Whether the counted deviation is charged: over 2,000 kWh, or twenty times it over the reading; of an unmeasured unit, twenty times it
 // at the hub over the unit's energy.
 #[tactic(auto, using(std::proofs::lemmas::Bool::Decides::nat_tests), unfolding(crate::specs::Test::is_charged, energy::specs::Energy::hub_of))]
 pub fn is_charged(q: NetKwh, reading: Option<NetKwh>, energy: HubGrains, loss: u64) -> bool
-    requires { loss ≤ 10000 }
     ensures { result ≡ is_charged q reading energy loss }
 {
     if q > NetKwh(2000) {
@@ -116,17 +120,22 @@ pub fn is_charged(q: NetKwh, reading: Option<NetKwh>, energy: HubGrains, loss: u
     }
 }
 
+// What W takes of each kind.
+#[tactic(auto, unfolding(crate::specs::Test::kind_weights, crate::specs::Test::kind_weight, crate::specs::Test::counted_at))]
+fn weighted_parts(d: Deviations, repair: u64) -> [u64; KINDS]
+    requires { (j : ℕ) → j < kinds → weighted_part d repair j < 2 ^ 64 }
+    ensures { result ≡ tabulate kinds (weighted_part d repair) }
+{
+    array::from_fn(|j| KIND_WEIGHTS[j].in_w(d.kwh[j], repair))
+}
+
 // The weighted deviation W, in tenths of a kWh.
-#[tactic(auto, using(finite::proofs::Sums::sum_next, crate::proofs::Weights::weighted_fits, crate::proofs::Weights::part_fits), unfolding(finite::specs::Finite::sum, crate::specs::Test::weighted))]
+#[tactic(auto, unfolding(crate::specs::Test::weighted))]
 pub fn weighted(d: Deviations, repair: u64) -> u64
-    requires { Bounded d }
+    requires { the_weighted d repair < 2 ^ 64 }
     ensures { result ≡ the_weighted d repair }
 {
-    let mut w = 0u64;
-    for j in 0..KINDS {
-        w += counted_at(d, repair, j).weight(kind_weight(j).tenths);
-    }
-    w
+    weighted_parts(d, repair).iter().sum()
 }
 
 // The charge of the first hour, b.

@@ -27,15 +27,15 @@ use Rattle.formulas.specs.Items.{first_kind, kinds, no_deviation, deviation_at, 
 use Rattle.deviation.specs.Deviation.{short_minutes, counted_as, proportion, proportions, deviations_of}
 use Rattle.deviation.specs.Deviation.{SplitReady}
 
-pub short_most : (own : ℕ) (test : NetKwh) (s : Span) → test.0 ≤ 1000000 → SpanInRange s → short_minutes own test s ≤ 60000000
+pub short_most : (own : ℕ) (test : NetKwh) (s : Span) → test.0 ≤ 1000000 → s.minutes ≤ 60 → short_minutes own test s ≤ 60000000
 unfolding short_minutes
-short_most own test s t r = let h : test.0 - (net_of s.capability own).0 ≤ 1000000 = omega arith in omega (arith, mul-le-mul h r.minutes_most)
+short_most own test s t m = let h : test.0 - (net_of s.capability own).0 ≤ 1000000 = omega arith in omega (arith, mul-le-mul h m)
 
 pub counted_most : (own : ℕ) (test : NetKwh) (kind : ℕ) (s : Span) → test.0 ≤ 1000000 → SpanInRange s → counted_as own test kind s ≤ 60000000
 counted_most own test kind s t r = by (eqb (counted_kind s) kind)
   where
     by : (b : Bool) → cond b (short_minutes own test s) 0 ≤ 60000000
-    by true = short_most own test s t r
+    by true = short_most own test s t r.minutes_most
     by false = omega arith
 
 module _ (own : ℕ) (u : UnitRecord) where

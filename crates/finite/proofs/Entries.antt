@@ -1,9 +1,11 @@
--- The sum of a list's entries by index is what a chain's `sum` gives.
+-- The sum of a list's entries by index, and of a list made by index, is what a chain's `sum` gives.
 -- Assumes nothing.
-use Rattle.std.proofs.Common.{◌≡◌, refl, ℕ, zero, suc, ◌+◌, List, [], ◌∷◌, length, get_or, arith}
+use Rattle.std.proofs.Common.{◌≡◌, refl, sym, ◌∙◌, ap, ℕ, zero, suc, ◌+◌, List, [], ◌∷◌, length, get_or, arith}
 use Rattle.std.specs.Prelude.{sum as list_sum}
 use Rattle.std.proofs.lemmas.List.Sums.{sum_by-cons}
-use Rattle.finite.specs.Finite.{sum}
+use Rattle.finite.specs.Finite.{sum, tabulate}
+use Rattle.finite.proofs.Sums.{sum_same}
+use Rattle.finite.proofs.Tables.{length_tabulate, get_d_tabulate}
 
 -- the first apart: f 0 and the others
 sum_first : (n : ℕ) (f : ℕ → ℕ) → sum (suc n) f ≡ f 0 + sum n (λ i. f (suc i))
@@ -16,3 +18,8 @@ unfolding sum
 sum_entries [] = refl
 sum_entries (x ∷ xs) =
     omega (arith, sum_first (length xs) (λ i. get_or (x ∷ xs) i 0), sum_entries xs, sum_by-cons (λ (n : ℕ). n) x xs)
+
+pub sum_tabulate : (n : ℕ) (f : ℕ → ℕ) → list_sum (tabulate n f) ≡ sum n f
+sum_tabulate n f =
+    let entry : ℕ → ℕ = λ i. get_or (tabulate n f) i 0 in
+    sym (sum_entries (tabulate n f)) ∙ (ap (λ (m : ℕ). sum m entry) (length_tabulate n f) ∙ sum_same n entry f (λ i l. get_d_tabulate n f i 0 l))

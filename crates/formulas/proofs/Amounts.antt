@@ -12,7 +12,7 @@ use lib.Signed.{mag}
 use mir.Syntax.{w64}
 use mir.Val.{SFits, to_z, of_z}
 use mir.Facts.{to_z-of_z}
-use Rattle.formulas.specs.Items.{paid, owed}
+use Rattle.formulas.specs.Items.{owed}
 
 pub mag_le : (z : ℤ) → mag z ≤ nat_abs z
 mag_le (pos n) = omega arith

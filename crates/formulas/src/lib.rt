@@ -86,37 +86,43 @@ pub fn declaration_ceiling(season: bool, power: GrossKwh) -> GrossKwh
     power.plus(power.percent(3).min(GrossKwh(3000)))
 }
 
-// The kWh that item 3 takes back, by D, `real`, the deviations and net(A): what `real`, d5 and d7 leave of D, or what is above net(A).
-#[tactic(auto, unfolding(crate::specs::Items::refund_kwh))]
-pub fn refund_kwh(declared: NetKwh, real: NetKwh, d: Deviations, allowed: NetKwh) -> NetKwh
-    ensures { result ≡ refund_kwh declared real d allowed }
-{
-    let unable = declared.above(real);
-    let short = unable.above(d.of_kind(5)).above(d.of_kind(7));
-    short.max(declared.above(allowed))
+// What item 3 goes by: the net declared capability D, `real`, the deviation by kinds, and the net declaration ceiling net(A).
+#[derive(Clone, Copy)]
+pub struct Declaration {
+    pub declared: NetKwh,
+    pub real: NetKwh,
+    pub deviations: Deviations,
+    pub allowed: NetKwh,
 }
 
-// Item 3, a magnitude.
-#[tactic(auto, unfolding(crate::specs::Items::refund_kwh, crate::specs::Items::refund))]
-pub fn refund(
-    declared: NetKwh,
-    real: NetKwh,
-    d: Deviations,
-    allowed: NetKwh,
-    rate: AvailabilityRate,
-) -> u64
-    requires { declared.0 ≤ 10000000 }
-    ensures { result ≡ the_refund declared real d allowed rate.cpf rate.bar }
-{
-    energy::pay_of(refund_kwh(declared, real, d, allowed), rate.cpf, rate.bar)
+impl Declaration {
+    // The kWh that item 3 takes back: what `real`, d5 and d7 leave of D, or what is above net(A).
+    #[tactic(auto, unfolding(crate::specs::Items::refund_kwh))]
+    pub fn refund_kwh(self) -> NetKwh
+        ensures { result ≡ refund_kwh self.declared self.real self.deviations self.allowed }
+    {
+        let d = self.deviations;
+        let unable = self.declared.above(self.real);
+        let short = unable.above(d.of_kind(5)).above(d.of_kind(7));
+        short.max(self.declared.above(self.allowed))
+    }
+
+    // Item 3, a magnitude.
+    #[tactic(auto, unfolding(crate::specs::Items::refund_kwh, crate::specs::Items::refund))]
+    pub fn refund(self, rate: AvailabilityRate) -> u64
+        requires { self.declared.0 ≤ 10000000 }
+        ensures { result ≡ the_refund self.declared self.real self.deviations self.allowed rate.cpf rate.bar }
+    {
+        energy::pay_of(self.refund_kwh(), rate.cpf, rate.bar)
+    }
 }
 
 // Item 5, a magnitude: energy drawn from the grid, at the ceiling price.
 #[tactic(auto, using(crate::proofs::Laws::drawn_factors), unfolding(energy::specs::Energy::hub_of, crate::specs::Items::energy_pay, crate::specs::Items::drawn_pay))]
 pub fn drawn_pay(reverse: NetKwh, net: NetKwh, ceiling: u64, loss: u64) -> u64
-    requires { (reverse.0 ≤ 10000000) × (ceiling ≤ 10000000) × (loss ≤ 10000) }
+    requires { (reverse.0 ≤ 10000000) × (ceiling ≤ 10000000) }
     ensures { result ≡ drawn_pay reverse net ceiling loss }
 {
     let drawn = energy::hub_of(reverse.above(net), loss);
-    energy_pay(drawn.cost(ceiling))
+    energy_pay(drawn.product(ceiling))
 }

@@ -11,8 +11,11 @@ use Rattle.record.specs.Spans.{unit_at as record_unit}
 abbrev pub reading_of : UnitRecord → ℕ
 reading_of u = (unwrap_or u.reading (record { 0 = 0 })).0
 
+abbrev pub place_reading : Record → ℕ → ℕ → ℕ
+place_reading r units k = cond (member_at units k) (reading_of (record_unit r k)) 0
+
 unfoldable pub readings_total : Record → ℕ → NetKwh
-readings_total r units = record { 0 = sum 8 (λ k. cond (member_at units k) (reading_of (record_unit r k)) 0) }
+readings_total r units = record { 0 = sum 8 (place_reading r units) }
 
 -- whether none is blank
 unfoldable pub all_measured : Record → ℕ → Bool

@@ -3,16 +3,13 @@
 use mathlib.Core.Path.{◌≡◌}
 use mathlib.Core.Bool.{true}
 use Prim.Native.Nat.{ℕ}
-use native.Mathlib.Omega.{arith}
 use borrow.Author.Tests.{eqb-true}
 use Rattle.finite.proofs.Tests.{every_at}
 use Rattle.units.specs.Units.{member_at}
 use Rattle.units.proofs.Laws.{place_lt}
-use Rattle.record.specs.declared.UnitRecord.{UnitRecord}
 use Rattle.record.specs.declared.Record.{Record}
 use Rattle.record.specs.Limits.{hour_minutes}
-use Rattle.record.specs.Spans.{unit_at, span_count, minutes_of, place_minutes, minutes_hold}
-use Rattle.record.specs.InRange.{UnitInRange}
+use Rattle.record.specs.Spans.{unit_at, minutes_of, place_minutes, minutes_hold}
 
 -- a record that passes refusal 31
 pub minutes_told : (r : Record) (units k : ℕ) → minutes_hold r units ≡ true → member_at units k ≡ true → minutes_of (unit_at r k) ≡ hour_minutes

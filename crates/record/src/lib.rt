@@ -103,8 +103,8 @@ pub fn counted_kind(span: Span) -> u64
 }
 
 // Whether a unit's spans have 60 minutes in all.
-fn unit_minutes(u: UnitRecord) -> bool
-    ensures { result ≡ eqb (minutes_of u) 60 }
+fn unit_minutes(u: &UnitRecord) -> bool
+    ensures { result ≡ eqb (minutes_of u.now) 60 }
 {
     let n = u.spans.min(SPANS);
     let mut left = HOUR_MINUTES;
@@ -118,8 +118,8 @@ fn unit_minutes(u: UnitRecord) -> bool
 }
 
 // Whether each unit of the plant has spans of 60 minutes in all: refusal 31 where it does not hold.
-pub fn minutes_hold(hour: Record, units: u64) -> bool
-    ensures { result ≡ minutes_hold hour units }
+pub fn minutes_hold(hour: &Record, units: u64) -> bool
+    ensures { result ≡ minutes_hold hour.now units }
 {
-    (0..8).all(|k| !units::member_at(units, k) || unit_minutes(hour.unit[k]))
+    (0..8).all(|k| !units::member_at(units, k) || unit_minutes(&hour.unit[k]))
 }

@@ -11,4 +11,4 @@ use Rattle.readings.proofs.all_measured.Goals as goal
 pub returns : goal.returns
 unfolding all_measured
 returns c =
-    every_range (λ k. cond (member_at c.args.units k) (is_some (unit_at c.args.hour k).reading) true) 8 _ (search rules) c.all.ensures.ran (λ x y q k. search rules)
+    every_range (λ k. cond (member_at c.args.units k) (is_some (unit_at c.args.hour.now k).reading) true) 8 _ (search rules) c.all.ensures.ran (λ x y q k. search rules)

@@ -7,4 +7,4 @@ use Rattle.record.proofs.minutes_hold.Goals as goal
 
 pub returns : goal.returns
 unfolding minutes_hold
-returns c = every_range (place_minutes c.args.hour c.args.units) 8 _ (search rules) c.all.ensures.ran (λ x y q k. search rules)
+returns c = every_range (place_minutes c.args.hour.now c.args.units) 8 _ (search rules) c.all.ensures.ran (λ x y q k. search rules)

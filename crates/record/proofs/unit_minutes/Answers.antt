@@ -26,7 +26,7 @@ loop-span-init c = omega arith
 pub returns-in_default : goal.returns-in_default
 unfolding minutes_of
 returns-in_default c =
-    let u = c.args.u in
+    let u = c.args.u.now in
     let i = c.loop-span.span-index in
     let long : i < c.min-n.result = omega (arith, length-take c.min-n.result u.span) in
     let its : get_or (take c.min-n.result u.span) i no_span ≡ span_at u i = get_or-take c.min-n.result u.span i no_span long in
@@ -37,7 +37,7 @@ returns-in_default c =
 
 pub loop-span-preserved : goal.loop-span-preserved
 loop-span-preserved c =
-    let u = c.args.u in
+    let u = c.args.u.now in
     let i = c.loop-span.span-index in
     let long : i < c.min-n.result = omega (arith, length-take c.min-n.result u.span) in
     let its : get_or (take c.min-n.result u.span) i no_span ≡ span_at u i = get_or-take c.min-n.result u.span i no_span long in
@@ -48,6 +48,6 @@ loop-span-preserved c =
 pub returns : goal.returns
 unfolding minutes_of
 returns c =
-    let u = c.args.u in
+    let u = c.args.u.now in
     let all : c.loop-span.span-index ≡ span_count u = omega (arith, length-take c.min-n.result u.span) in
     all_told c.loop-span.left (minutes_of u) (rw (sym all) c.loop-span.invariant)

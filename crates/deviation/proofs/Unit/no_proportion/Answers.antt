@@ -14,4 +14,4 @@ unfolding no_proportion
 returns c =
     let a = c.args in
     every_slice (λ (n : ℕ). eqb n 0) (proportions a.self.own a.self.hour) kinds 0 _ (search rules) (search rules) c.all.ensures.ran (λ x y q k. search rules)
-    ∙ every_same kinds _ _ (λ j l. ap (λ (n : ℕ). eqb n 0) (proportion_at a.self.own a.self.hour c.args.self.in_range.1 j l))
+    ∙ every_same kinds _ _ (λ j l. ap (λ (n : ℕ). eqb n 0) (proportion_at a.self.own a.self.hour c.args.self.in_range j l))

@@ -42,16 +42,17 @@ loop-span-init c = counted_none c.args.self.own c.args.self.hour
 pub short_minutes-requires : goal.short_minutes-requires
 short_minutes-requires c =
     let r = reached c.args.self.hour c.loop-span.span-index c.loop-span-test.true in
-    rw (sym r.is) at (c.args.self.in_range.1.span c.loop-span.span-index r.below)
+    let s = c.args.self.in_range.span c.loop-span.span-index r.below in
+    (rw r.is s.capability, rw r.is s.minutes_most)
 
 pub offset_bounds-sums-kind : goal.offset_bounds-sums-kind
-offset_bounds-sums-kind c = let p = place c.args.self.hour c.loop-span.span-index _ c.args.self.in_range.1 c.loop-span-test.true c.counted_kind-kind.ensures c.if-kind-ge2.true in omega arith
+offset_bounds-sums-kind c = let p = place c.args.self.hour c.loop-span.span-index _ c.args.self.in_range c.loop-span-test.true c.counted_kind-kind.ensures c.if-kind-ge2.true in omega arith
 
 pub bounds-sums-kind : goal.bounds-sums-kind
-bounds-sums-kind c = let p = place c.args.self.hour c.loop-span.span-index _ c.args.self.in_range.1 c.loop-span-test.true c.counted_kind-kind.ensures c.if-kind-ge2.true in omega arith
+bounds-sums-kind c = let p = place c.args.self.hour c.loop-span.span-index _ c.args.self.in_range c.loop-span-test.true c.counted_kind-kind.ensures c.if-kind-ge2.true in omega arith
 
 pub bounds-sums-kind-then-kind-ge2 : goal.bounds-sums-kind-then-kind-ge2
-bounds-sums-kind-then-kind-ge2 c = let p = place c.args.self.hour c.loop-span.span-index _ c.args.self.in_range.1 c.loop-span-test.true c.counted_kind-kind.ensures c.if-kind-ge2.true in omega arith
+bounds-sums-kind-then-kind-ge2 c = let p = place c.args.self.hour c.loop-span.span-index _ c.args.self.in_range c.loop-span-test.true c.counted_kind-kind.ensures c.if-kind-ge2.true in omega arith
 
 pub overflow_add-sums : goal.overflow_add-sums
 overflow_add-sums c =
@@ -63,9 +64,9 @@ overflow_add-sums c =
     omega (
       arith,
       c.short_minutes.ensures ∙ ap (short_minutes own u.test) r.is,
-      short_most own u.test (span_at u i) c.args.self.in_range.1.test (c.args.self.in_range.1.span i r.below),
-      c.loop-span.invariant.kind k (place c.args.self.hour c.loop-span.span-index _ c.args.self.in_range.1 c.loop-span-test.true c.counted_kind-kind.ensures c.if-kind-ge2.true),
-      part_most own u c.args.self.in_range.1 (first_kind + k) i (omega (arith, r.below)),
+      short_most own u.test (span_at u i) c.args.self.in_range.test (c.args.self.in_range.span i r.below).minutes_most,
+      c.loop-span.invariant.kind k (place c.args.self.hour c.loop-span.span-index _ c.args.self.in_range c.loop-span-test.true c.counted_kind-kind.ensures c.if-kind-ge2.true),
+      part_most own u c.args.self.in_range (first_kind + k) i (omega (arith, r.below)),
     )
 
 pub loop-span-preserved : goal.loop-span-preserved
@@ -80,12 +81,12 @@ loop-span-preserved c =
     elim c.if-kind-ge2.branch [
       | then-kind-ge2 w ↦ subst (λ (x : List ℕ). Counted own u (i + 1) x)
           (sym (w.sums-is ∙ ap (λ (n : ℕ). set sums (kind - 2) (get_or sums (kind - 2) 0 + n)) (w.short_minutes.ensures ∙ ap (short_minutes own u.test) r.is)))
-          (counted_in own u i sums c.loop-span.invariant (kind - 2) (place u i _ c.args.self.in_range.1 c.loop-span-test.true c.counted_kind-kind.ensures w.if-kind-ge2.true) (sym e ∙ omega (arith, w.if-kind-ge2.true)))
+          (counted_in own u i sums c.loop-span.invariant (kind - 2) (place u i _ c.args.self.in_range c.loop-span-test.true c.counted_kind-kind.ensures w.if-kind-ge2.true) (sym e ∙ omega (arith, w.if-kind-ge2.true)))
       | else-kind-ge2 w ↦ subst (λ (x : List ℕ). Counted own u (i + 1) x) (sym w.sums-is) (counted_out own u i sums c.loop-span.invariant (omega (arith, e, w.if-kind-ge2.false)))
     ]
 
 pub returns : goal.returns
 returns c =
     let u = c.args.self.hour in
-    let e : c.loop-span.span-index ≡ min u.spans 6 = omega (arith, c.args.self.in_range.1.spans_most, length-take u.spans u.span) in
-    counted_all c.args.self.own u c.args.self.in_range.1 c.loop-span.span-index c.loop-span.sums e c.loop-span.invariant
+    let e : c.loop-span.span-index ≡ min u.spans 6 = omega (arith, c.args.self.in_range.spans_most, length-take u.spans u.span) in
+    counted_all c.args.self.own u c.args.self.in_range c.loop-span.span-index c.loop-span.sums e c.loop-span.invariant

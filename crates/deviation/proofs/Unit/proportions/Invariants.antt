@@ -1,4 +1,3 @@
-use Rattle.record.proofs.Counted.{counted_in as kind-in}
 use Rattle.deviation.proofs.Weights.{Counted}
 use Rattle.deviation.proofs.Unit.proportions.Given as goal
 
