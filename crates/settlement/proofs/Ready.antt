@@ -8,27 +8,26 @@ use Prim.Native.Nat.{ℕ, ◌-◌, ◌≤◌, ◌<◌}
 use native.Mathlib.Omega.{arith}
 use lib.ListN.{get_or}
 use Rattle.finite.specs.Finite.{tabulate}
-use Rattle.finite.proofs.Tables.{get_d_tabulate}
-use Rattle.energy.specs.declared.GrossKwh.{GrossKwh}
-use Rattle.energy.specs.declared.NetKwh.{NetKwh}
+use Rattle.finite.proofs.Tables.{get_d_tabulate, tabulate_same}
 use Rattle.energy.specs.declared.HubKwh.{HubKwh}
 use Rattle.energy.specs.declared.HubGrains.{HubGrains}
 use Rattle.units.specs.Units.{member_at}
 use Rattle.units.proofs.Laws.{place_lt}
 use Rattle.offer.specs.declared.Offer.{Offer}
-use Rattle.offer.specs.Offer.{past_offer, offer_holds}
+use Rattle.offer.specs.Offer.{offer_holds}
 use Rattle.sheet.specs.declared.Sheet.{Sheet}
 use Rattle.sheet.specs.Ranges.{unit_at as sheet_unit, offer_at}
 use Rattle.sheet.proofs.InRange.{UnitInRange as SheetUnitInRange, InRange as SheetInRange, in_range_lem}
 use Rattle.record.specs.declared.Record.{Record}
 use Rattle.record.specs.Spans.{unit_at as record_unit}
+use Rattle.allocation.specs.declared.PlantUnit.{PlantUnit}
 use Rattle.allocation.specs.Fill.{grains_at}
-use Rattle.allocation.specs.Allocation.{PlantHolds, energies}
+use Rattle.allocation.specs.Allocation.{past_unit as past_plant_unit, PlantHolds, energies}
 use Rattle.allocation.proofs.Laws.{energy_most}
-use Rattle.formulas.specs.Items.{drawn_pay}
-use Rattle.settlement.specs.Hour.{no_amounts, amounts_of, drawn_at, plant_of, amounts_at}
-use Rattle.terms.specs.Terms.{rates_of}
-use Rattle.settlement.specs.Ranges.{HourRead, HourReady, RatesReady, UnitReady, place_amounts, UnitsReady}
+use Rattle.settlement.specs.Hour.{no_amounts, amounts_of, drawn_at, plant_unit, plant_of, amounts_at}
+use Rattle.terms.specs.declared.HourSheet.{HourSheet}
+use Rattle.terms.specs.Terms.{rates_of, unit_terms, units_terms, past_terms, terms_at, hour_sheet_with}
+use Rattle.settlement.specs.Ranges.{HourRead, HourReady, RatesReady, UnitReady, place_amounts, plant_by}
 
 -- by places: each unit's own use and its offer of an hour
 abbrev pub own_at : Sheet → ℕ → ℕ
@@ -37,22 +36,39 @@ own_at sheet k = (sheet_unit sheet.unit k).own
 abbrev pub hour_offer : Sheet → Record → ℕ → Offer
 hour_offer sheet r k = offer_at (sheet_unit sheet.unit k) (r.hour - 1)
 
-module _ (sheet : Sheet) (r : Record) where
-  pub own_at_lem : (k : ℕ) → k < 8 → get_or (tabulate 8 (own_at sheet)) k 0 ≡ own_at sheet k
-  own_at_lem k l = get_d_tabulate 8 (own_at sheet) k 0 l
+-- what is used of the sheet in the record's hour
+abbrev pub taken : Sheet → Record → HourSheet
+taken sheet r = hour_sheet_with sheet r.hour (units_terms sheet (r.hour - 1))
 
-  offer_at_lem : (k : ℕ) → k < 8 → get_or (tabulate 8 (hour_offer sheet r)) k past_offer ≡ hour_offer sheet r k
-  offer_at_lem k l = get_d_tabulate 8 (hour_offer sheet r) k past_offer l
+module _ (sheet : Sheet) (r : Record) where
+  pub terms_at_lem : (k : ℕ) → k < 8 → terms_at (taken sheet r) k ≡ unit_terms (sheet_unit sheet.unit k) (r.hour - 1)
+  terms_at_lem k l = get_d_tabulate 8 (λ k. unit_terms (sheet_unit sheet.unit k) (r.hour - 1)) k past_terms l
+
+  plant_unit_lem : (commitment : List HubKwh) (k : ℕ) → k < 8
+      → get_or (tabulate 8 (plant_unit sheet r commitment)) k past_plant_unit ≡ plant_unit sheet r commitment k
+  plant_unit_lem commitment k l = get_d_tabulate 8 (plant_unit sheet r commitment) k past_plant_unit l
+
+  -- the plant by what was taken out is the definition's
+  pub plant_same : (commitment : List HubKwh) → plant_by (taken sheet r) r commitment ≡ plant_of sheet r commitment
+  unfolding plant_of rates_of
+  plant_same commitment =
+      ap (λ (u : List PlantUnit). record { loss = sheet.loss; units = sheet.units; unit = u })
+      (tabulate_same 8 _ _
+      (λ k l i.
+      record {
+        real = (record_unit r k).real;
+        nominal = (terms_at_lem k l i).nominal;
+        commitment = get_or commitment k (record { 0 = 0 });
+        offer = (terms_at_lem k l i).offer;
+      }))
 
   -- the amounts by what was taken out are the definition's
   pub place_same : (commitment : List HubKwh) (energy : List HubGrains) (k : ℕ) → k < 8
-      → place_amounts (rates_of sheet r.hour) sheet.units (tabulate 8 (own_at sheet)) (tabulate 8 (hour_offer sheet r)) commitment r.unit energy
-      (drawn_pay r.reverse r.net sheet.ceiling sheet.loss) k
-      ≡ amounts_at sheet r commitment energy k
-  unfolding amounts_at drawn_at
+      → place_amounts (taken sheet r) r commitment (get_or energy k (record { 0 = 0 })) k ≡ amounts_at sheet r commitment energy k
+  unfolding amounts_at drawn_at rates_of
   place_same commitment energy k l = λ i.
       cond (member_at sheet.units k)
-      (amounts_of (rates_of sheet r.hour) (own_at_lem k l i) (offer_at_lem k l i) (get_or commitment k (record { 0 = 0 })) (record_unit r k)
+      (amounts_of (rates_of sheet r.hour) (terms_at_lem k l i).own (terms_at_lem k l i).offer (get_or commitment k (record { 0 = 0 })) (record_unit r k)
       (get_or energy k (record { 0 = 0 })) (drawn_at sheet r k))
       no_amounts
 
@@ -95,18 +111,13 @@ module _ (sheet : Sheet) (r : Record) where
           each = λ k m.
               let l = place_lt sheet.units k m in
               let u = sheet_unit_in h.read k m in
-              let real : get_or (tabulate 8 (λ k. (record_unit r k).real)) k (record { 0 = 0 }) ≡ (record_unit r k).real
-              = get_d_tabulate 8 (λ k. (record_unit r k).real) k (record { 0 = 0 }) l in
-              let nominal : get_or (tabulate 8 (λ k. (sheet_unit sheet.unit k).nominal)) k (record { 0 = 0 }) ≡ (sheet_unit sheet.unit k).nominal
-              = get_d_tabulate 8 (λ k. (sheet_unit sheet.unit k).nominal) k (record { 0 = 0 }) l in
-              record {
-                able = omega (arith, ap (λ (n : NetKwh). n.0) real, (h.read.in_range.unit k m).real);
-                rated =
-                    let e = ap (λ (g : GrossKwh). g.0) nominal in
-                    (omega (arith, e, u.nominal_least), omega (arith, e, u.nominal_most));
+              rw (plant_unit_lem commitment k l)
+              (record {
+                able = (h.read.in_range.unit k m).real;
+                rated = (u.nominal_least, u.nominal_most);
                 committed = h.committed k m;
-                offered = rw (offer_at_lem k l) (hour_offered h.read k m);
-              };
+                offered = hour_offered h.read k m;
+              });
         }
 
     -- no energy is over 8 × 10^10
@@ -124,7 +135,3 @@ module _ (sheet : Sheet) (r : Record) where
           in_range = h.read.in_range.unit k m;
           allocated = hour_most k (place_lt sheet.units k m);
         }
-
-    pub units_ready : UnitsReady sheet.units (tabulate 8 (own_at sheet)) (tabulate 8 (hour_offer sheet r)) commitment r.unit
-        (energies r.net r.reverse (plant_of sheet r commitment))
-    units_ready k m = let l = place_lt sheet.units k m in rw (own_at_lem k l, offer_at_lem k l) (unit_ready k m)

@@ -13,6 +13,7 @@ use Rattle.sheet.specs.Ranges.{unit_at as sheet_unit, offer_at}
 use Rattle.record.specs.declared.UnitRecord.{UnitRecord}
 use Rattle.record.specs.declared.Record.{Record}
 use Rattle.record.specs.Spans.{unit_at as record_unit}
+use Rattle.allocation.specs.declared.PlantUnit.{PlantUnit}
 use Rattle.allocation.specs.declared.Plant.{Plant}
 use Rattle.allocation.specs.Allocation.{energies}
 use Rattle.formulas.specs.declared.Deviations.{Deviations}
@@ -80,16 +81,22 @@ amounts_of rates own offer commitment u energy drawn =
           ∷ [];
     }
 
--- what the allocation rests on in the record's hour (crate allocation)
+-- what the allocation rests on in the record's hour (crate allocation): of the unit at place k, and of the plant
+abbrev pub plant_unit : Sheet → Record → List HubKwh → ℕ → PlantUnit
+plant_unit sheet r commitment k =
+    record {
+      real = (record_unit r k).real;
+      nominal = (sheet_unit sheet.unit k).nominal;
+      commitment = get_or commitment k (record { 0 = 0 });
+      offer = offer_at (sheet_unit sheet.unit k) (r.hour - 1);
+    }
+
 unfoldable pub plant_of : Sheet → Record → List HubKwh → Plant
 plant_of sheet r commitment =
     record {
       loss = sheet.loss;
       units = sheet.units;
-      real = tabulate 8 (λ k. (record_unit r k).real);
-      nominal = tabulate 8 (λ k. (sheet_unit sheet.unit k).nominal);
-      commitment = commitment;
-      offer = tabulate 8 (λ k. offer_at (sheet_unit sheet.unit k) (r.hour - 1));
+      unit = tabulate 8 (plant_unit sheet r commitment);
     }
 
 -- the amounts of the unit at place k, by all units' energies

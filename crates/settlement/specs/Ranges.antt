@@ -5,15 +5,16 @@ use Rattle.energy.specs.declared.HubKwh.{HubKwh}
 use Rattle.energy.specs.declared.HubGrains.{HubGrains}
 use Rattle.units.specs.Units.{member_at, is_lowest}
 use Rattle.offer.specs.declared.Offer.{Offer}
-use Rattle.offer.specs.Offer.{offer_holds, past_offer}
+use Rattle.offer.specs.Offer.{offer_holds}
 use Rattle.sheet.specs.declared.Sheet.{Sheet}
 use Rattle.sheet.specs.Ranges.{sheet_holds}
 use Rattle.record.specs.declared.UnitRecord.{UnitRecord}
 use Rattle.record.specs.declared.Record.{Record}
-use Rattle.record.specs.Spans.{past_unit, unit_at as record_unit}
+use Rattle.record.specs.Spans.{unit_at as record_unit}
 use Rattle.record.specs.InRange.{UnitInRange, InRange}
+use Rattle.allocation.specs.declared.PlantUnit.{PlantUnit}
 use Rattle.allocation.specs.declared.Plant.{Plant}
-use Rattle.allocation.specs.Allocation.{energies}
+use Rattle.allocation.specs.Allocation.{energies, PlantHolds}
 use Rattle.formulas.specs.Items.{drawn_pay}
 use Rattle.terms.specs.declared.Rates.{Rates}
 use Rattle.settlement.specs.declared.Amounts.{Amounts}
@@ -21,7 +22,7 @@ use Rattle.terms.specs.declared.HourSheet.{HourSheet}
 use Rattle.settlement.specs.declared.HourResult.{HourResult}
 use Rattle.deviation.specs.Proportions.{unit_proportioned}
 use Rattle.settlement.specs.Hour.{no_amounts, amounts_of}
-use Rattle.terms.specs.Terms.{hour_sheet}
+use Rattle.terms.specs.Terms.{terms_at, hour_sheet}
 
 -- the sheet passes refusal 9, and the record was read for its units
 pub record HourRead (sheet : Sheet) (r : Record) : Type 0 where
@@ -57,43 +58,48 @@ pub record UnitReady (own : ℕ) (offer : Offer) (commitment : HubKwh) (u : Unit
   pub in_range : UnitInRange u
   pub allocated : energy.0 ≤ 80000000000
 
--- for the code: the amounts of place k, by what was taken out of the sheet and the record, and the ranges that they rest on
-abbrev pub place_amounts : Rates → ℕ → List ℕ → List Offer → List HubKwh → List UnitRecord → List HubGrains → ℕ → ℕ → Amounts
-place_amounts rates units own offers commitments unit energy drawn k =
-    cond (member_at units k)
-    (amounts_of rates (get_or own k 0) (get_or offers k past_offer) (get_or commitments k (record { 0 = 0 })) (get_or unit k past_unit)
-    (get_or energy k (record { 0 = 0 })) (cond (is_lowest units k) drawn 0))
-    no_amounts
-
-abbrev pub UnitsReady : ℕ → List ℕ → List Offer → List HubKwh → List UnitRecord → List HubGrains → Type 0
-UnitsReady units own offers commitments unit energy =
-    (k : ℕ) → member_at units k ≡ true
-    → UnitReady (get_or own k 0) (get_or offers k past_offer) (get_or commitments k (record { 0 = 0 })) (get_or unit k past_unit)
-    (get_or energy k (record { 0 = 0 }))
-
 -- for the code: the definitions of an hour by what is used of the sheet. `hour_by_lem` and `proportions_by_lem` (proofs/Taken.antt) say that they are
 -- those of the sheet
-abbrev pub plant_by : HourSheet → Record → List HubKwh → Plant
-plant_by day r commitment =
+abbrev pub plant_unit_by : HourSheet → Record → List HubKwh → ℕ → PlantUnit
+plant_unit_by day r commitment k =
     record {
-      loss = day.rates.loss;
-      units = day.units;
-      real = tabulate 8 (λ k. (record_unit r k).real);
-      nominal = day.nominal;
-      commitment = commitment;
-      offer = day.offer;
+      real = (record_unit r k).real;
+      nominal = (terms_at day k).nominal;
+      commitment = get_or commitment k (record { 0 = 0 });
+      offer = (terms_at day k).offer;
     }
+
+abbrev pub plant_by : HourSheet → Record → List HubKwh → Plant
+plant_by day r commitment = record { loss = day.rates.loss; units = day.units; unit = tabulate 8 (plant_unit_by day r commitment) }
+
+abbrev pub drawn_by : HourSheet → Record → ℕ → ℕ
+drawn_by day r k = cond (is_lowest day.units k) (drawn_pay r.reverse r.net day.ceiling day.rates.loss) 0
+
+-- of the unit at place k, by its energy
+abbrev pub place_amounts : HourSheet → Record → List HubKwh → HubGrains → ℕ → Amounts
+place_amounts day r commitment energy k =
+    cond (member_at day.units k)
+    (amounts_of day.rates (terms_at day k).own (terms_at day k).offer (get_or commitment k (record { 0 = 0 })) (record_unit r k) energy
+    (drawn_by day r k))
+    no_amounts
+
+abbrev pub amounts_by : HourSheet → Record → List HubKwh → List HubGrains → List Amounts
+amounts_by day r commitment energy = tabulate 8 (λ k. place_amounts day r commitment (get_or energy k (record { 0 = 0 })) k)
+
+-- for the code: the ranges of an hour that is due, by what is used of the sheet (`hour_in_range`, proofs/Taken.antt)
+pub record HourInRange (day : HourSheet) (r : Record) (commitment : List HubKwh) : Type 0 where
+  pub net : r.net.0 ≤ 8000000
+  pub reverse : r.reverse.0 ≤ 8000000
+  pub ceiling : day.ceiling ≤ 10000000
+  pub rates : RatesReady day.rates
+  pub plant : PlantHolds (plant_by day r commitment)
+  pub unit : (k : ℕ) → member_at day.units k ≡ true → (energy : HubGrains) → energy.0 ≤ 80000000000
+      → UnitReady (terms_at day k).own (terms_at day k).offer (get_or commitment k (record { 0 = 0 })) (record_unit r k) energy
 
 unfoldable pub hour_by : HourSheet → Record → List HubKwh → HourResult
 hour_by day r commitment =
     let energy = energies r.net r.reverse (plant_by day r commitment) in
-    record {
-      energy = energy;
-      amounts =
-          tabulate 8
-          (place_amounts day.rates day.units day.own day.offer commitment r.unit energy
-          (drawn_pay r.reverse r.net day.ceiling day.rates.loss));
-    }
+    record { energy = energy; amounts = amounts_by day r commitment energy }
 
-unfoldable pub proportions_by : (units : ℕ) → List ℕ → Record → Bool
-proportions_by units own r = every 8 (λ k. cond (member_at units k) (unit_proportioned (get_or own k 0) (record_unit r k)) true)
+unfoldable pub proportions_by : HourSheet → Record → Bool
+proportions_by day r = every 8 (λ k. cond (member_at day.units k) (unit_proportioned (terms_at day k).own (record_unit r k)) true)

@@ -1,21 +1,19 @@
 // An hour's settlement: the five items of each unit, the hour's energies and amounts, and the test of a record's proportions.
 #![tactic(auto)]
 
-ghost use Rattle.std.specs.Prelude.{◌≡◌, true, cond, ℕ, ◌≤◌};
-ghost use Rattle.finite.specs.Finite.{tabulate};
-ghost use Rattle.units.specs.Units.{member_at, is_lowest};
-ghost use Rattle.offer.specs.Offer.{offer_holds};
+ghost use Rattle.std.specs.Prelude.{◌≡◌, ℕ, ◌≤◌, ◌<◌};
+ghost use Rattle.allocation.specs.Fill.{grains_at};
 ghost use Rattle.deviation.specs.Deviation.{SplitReady};
 ghost use Rattle.settlement.specs.Hour.{no_amounts, energy_item, availability_item, refund_item, test_item, amounts_of};
-ghost use Rattle.settlement.specs.Ranges.{HourGiven, HourDue, RatesReady, UnitReady, UnitsReady, place_amounts, plant_by, hour_by, proportions_by};
+ghost use Rattle.settlement.specs.Ranges.{HourGiven, HourInRange, RatesReady, UnitReady, drawn_by, place_amounts, amounts_by, plant_by, hour_by, proportions_by};
 
-use allocation::Plant;
+use allocation::{Plant, PlantUnit};
 use energy::{HubGrains, HubKwh, NetKwh};
-use formulas::{AvailabilityRate, Deviations};
-use offer::Offer;
+use formulas::{AvailabilityRate, Declaration, Deviations};
+use offer::ModifiedOffer;
 use record::{Record, UnitRecord};
 use std::array;
-use terms::{HourSheet, Rates};
+use terms::{HourSheet, Rates, UnitTerms};
 
 // The number of items of a unit.
 pub const ITEMS: usize = 5;
@@ -26,124 +24,108 @@ pub struct Amounts {
     pub item: [i64; ITEMS],
 }
 
-// An hour's energies and amounts: place k is that of unit k + 1, all 0 where the unit is outside the plant.
+// An hour's energies and amounts: place k is that of unit k + 1, all 0 where the unit is outside the plant. Two lists, as C and refusal 12 have them.
 #[derive(Clone, Copy)]
 pub struct HourResult {
     pub energy: [HubGrains; 8],
     pub amounts: [Amounts; 8],
 }
 
-// An hour's rates, which keep the sheet's ranges.
+// What a unit's items go by in an hour: the rates, what is used of its sheet, its commitment, what the record says of it, and its energy.
 #[derive(Clone, Copy)]
-struct ReadyRates {
-    hour: Rates,
-    ghost in_range: { RatesReady hour },
+struct UnitHour<'a> {
+    rates: Rates,
+    terms: &'a UnitTerms,
+    commitment: HubKwh,
+    unit: &'a UnitRecord,
+    energy: HubGrains,
+    ghost rated: { RatesReady rates },
+    ghost ready: { UnitReady terms.now.own terms.now.offer commitment unit.now energy },
 }
 
-impl ReadyRates {
+impl UnitHour<'_> {
     // What availability is paid by.
-    fn availability(self) -> AvailabilityRate
-        ensures { (result.cpf ≡ self.hour.cpf) × (result.bar ≡ self.hour.bar) }
+    fn availability(&self) -> AvailabilityRate
+        ensures { (result.cpf ≡ self.now.rates.cpf) × (result.bar ≡ self.now.rates.bar) }
     {
         AvailabilityRate {
-            cpf: self.hour.cpf,
-            bar: self.hour.bar,
+            cpf: self.rates.cpf,
+            bar: self.rates.bar,
         }
     }
-}
 
-// What a unit's items go by in an hour: the rates, its own use, its offer, its commitment, what the record says of it, and its energy.
-#[derive(Clone, Copy)]
-struct UnitHour {
-    rates: ReadyRates,
-    own: u64,
-    offer: Offer,
-    commitment: HubKwh,
-    unit: UnitRecord,
-    energy: HubGrains,
-}
-
-impl UnitHour {
     // Item 1.
     #[tactic(auto, using(offer::proofs::Costs::cost_first, offer::proofs::Costs::cost_le, formulas::proofs::Laws::energy_pay_most, formulas::proofs::Amounts::back), unfolding(crate::specs::Hour::energy_item))]
-    fn energy_item(self) -> i64
-        requires { (offer_holds self.offer ≡ true) × (self.commitment.0 ≤ 1000000) × (self.energy.0 ≤ 80000000000) }
-        ensures { result ≡ energy_item self.offer self.commitment self.energy }
+    fn energy_item(&self) -> i64
+        ensures { result ≡ energy_item self.now.terms.now.offer self.now.commitment self.now.energy }
     {
-        let cost = offer::cost_between(self.offer, self.commitment, HubGrains(0), self.energy);
+        let modified = ModifiedOffer {
+            offer: &self.terms.offer,
+            commitment: self.commitment,
+        };
+        let cost = modified.cost_between(HubGrains(0), self.energy);
         formulas::paid(formulas::energy_pay(cost))
     }
 
     // Item 2, by the net declared capability.
     #[tactic(auto, using(formulas::proofs::Laws::availability_most, formulas::proofs::Amounts::back), unfolding(crate::specs::Hour::availability_item))]
-    fn availability_item(self, declared: NetKwh) -> i64
-        requires { (declared.0 ≤ 1000000) × (self.commitment.0 ≤ 1000000) }
-        ensures { result ≡ availability_item self.rates.hour declared self.commitment }
+    fn availability_item(&self, declared: NetKwh) -> i64
+        requires { declared.0 ≤ 1000000 }
+        ensures { result ≡ availability_item self.now.rates declared self.now.commitment }
     {
-        let gate = energy::gate_of(self.commitment, self.rates.hour.loss);
-        formulas::paid(formulas::availability_pay(declared, gate, self.rates.availability()))
+        let gate = energy::gate_of(self.commitment, self.rates.loss);
+        formulas::paid(formulas::availability_pay(declared, gate, self.availability()))
     }
 
-    // Item 3, by the net declared capability, the deviation by kinds and the net declaration ceiling.
+    // Item 3.
     #[tactic(auto, using(formulas::proofs::Laws::refund_most, formulas::proofs::Amounts::back), unfolding(crate::specs::Hour::refund_item))]
-    fn refund_item(self, declared: NetKwh, d: Deviations, allowed: NetKwh) -> i64
-        requires { declared.0 ≤ 1000000 }
-        ensures { result ≡ refund_item self.rates.hour declared self.unit.real d allowed }
+    fn refund_item(&self, its: Declaration) -> i64
+        requires { its.declared.0 ≤ 1000000 }
+        ensures { result ≡ refund_item self.now.rates its.declared its.real its.deviations its.allowed }
     {
-        formulas::owed(formulas::refund(
-            declared,
-            self.unit.real,
-            d,
-            allowed,
-            self.rates.availability(),
-        ))
+        formulas::owed(its.refund(self.availability()))
     }
 
     // Item 4, by the deviation by kinds.
-    #[tactic(auto, using(charge::proofs::Laws::deviation_most, charge::proofs::Laws::weighted_most, charge::proofs::Charge::charge_most, formulas::proofs::Amounts::back), unfolding(crate::specs::Hour::test_item))]
-    fn test_item(self, d: Deviations) -> i64
+    #[tactic(auto, using(charge::proofs::Laws::counted_in, charge::proofs::Laws::weighted_most, charge::proofs::Charge::charge_most, formulas::proofs::Amounts::back), unfolding(crate::specs::Hour::test_item))]
+    fn test_item(&self, d: Deviations) -> i64
         requires { SplitReady d }
-        ensures { result ≡ test_item self.rates.hour self.unit.reading self.unit.repair self.unit.since d self.energy }
+        ensures { result ≡ test_item self.now.rates self.now.unit.now.reading self.now.unit.now.repair self.now.unit.now.since d self.now.energy }
     {
-        let unit = self.unit;
-        let q = charge::counted_deviation(d, unit.repair);
-        if charge::is_charged(q, unit.reading, self.energy, self.rates.hour.loss) {
-            let w = charge::weighted(d, unit.repair);
-            return formulas::owed(charge::charge_of(w, unit.since, self.rates.availability()));
+        let repair = self.unit.repair;
+        let q = charge::counted_deviation(d, repair);
+        if charge::is_charged(q, self.unit.reading, self.energy, self.rates.loss) {
+            let w = charge::weighted(d, repair);
+            return formulas::owed(charge::charge_of(w, self.unit.since, self.availability()));
         }
         0
     }
 
-    // The five items. Own use is taken off `declared` and the declaration ceiling; the other figures are net.
-    fn amounts(self, drawn: u64) -> Amounts
-        requires { UnitReady self.own self.offer self.commitment self.unit self.energy × (drawn ≤ 80000000000) }
-        ensures { result ≡ amounts_of self.rates.hour self.own self.offer self.commitment self.unit self.energy drawn }
+    // The five items, by what of the drawn energy's price is due of the unit. Own use is taken off `declared` and the declaration ceiling; the other
+    // figures are net.
+    fn amounts(&self, drawn: u64) -> Amounts
+        requires { drawn ≤ 80000000000 }
+        ensures { result ≡ amounts_of self.now.rates self.now.terms.now.own self.now.terms.now.offer self.now.commitment self.now.unit.now self.now.energy drawn }
     {
-        let declared = energy::net_of(self.unit.declared, self.own);
-        let ceiling = formulas::declaration_ceiling(self.rates.hour.season, self.unit.power);
-        let allowed = energy::net_of(ceiling, self.own);
-        let d = deviation::split(self.own, self.unit);
+        let own = self.terms.own;
+        let declared = energy::net_of(self.unit.declared, own);
+        let ceiling = formulas::declaration_ceiling(self.rates.season, self.unit.power);
+        let d = deviation::split(own, self.unit);
+        let its = Declaration {
+            declared: declared,
+            real: self.unit.real,
+            deviations: d,
+            allowed: energy::net_of(ceiling, own),
+        };
         Amounts {
             item: [
                 self.energy_item(),
                 self.availability_item(declared),
-                self.refund_item(declared, d, allowed),
+                self.refund_item(its),
                 self.test_item(d),
                 formulas::owed(drawn),
             ],
         }
-    }
-
-    // The amounts of the place k, 0 outside the plant. Of the price of the drawn energy all is due of the lowest-numbered unit.
-    fn amounts_at(self, units: u64, k: usize, drawn: u64) -> Amounts
-        requires { (member_at units k ≡ true → UnitReady self.own self.offer self.commitment self.unit self.energy) × (drawn ≤ 80000000000) }
-        ensures { result ≡ cond (member_at units k) (amounts_of self.rates.hour self.own self.offer self.commitment self.unit self.energy (cond (is_lowest units k) drawn 0)) no_amounts }
-    {
-        if units::member_at(units, k) {
-            let due = drawn_at(units, k, drawn);
-            return self.amounts(due);
-        }
-        no_amounts()
     }
 }
 
@@ -155,76 +137,94 @@ pub fn no_amounts() -> Amounts
     }
 }
 
-// What of the drawn energy's price is due of the unit at place k: all of it of the lowest-numbered unit, nothing of the others.
-fn drawn_at(units: u64, k: usize, drawn: u64) -> u64
-    ensures { result ≡ cond (is_lowest units k) drawn 0 }
-{
-    if units::lowest_at(units, k) { drawn } else { 0 }
-}
-
-// The amounts of each place, by the units' own use and energies, and the price of the drawn energy.
-fn hour_amounts(
-    rates: ReadyRates,
-    plant: Plant,
-    own: [u64; 8],
-    hour: Record,
-    energy: [HubGrains; 8],
-    drawn: u64,
-) -> [Amounts; 8]
-    requires { UnitsReady plant.units own plant.offer plant.commitment hour.unit energy × (drawn ≤ 80000000000) }
-    ensures { result ≡ tabulate 8 (place_amounts rates.hour plant.units own plant.offer plant.commitment hour.unit energy drawn) }
-{
-    array::from_fn(|k| {
-        let its = UnitHour {
-            rates: rates,
-            own: own[k],
-            offer: plant.offer[k],
-            commitment: plant.commitment[k],
-            unit: hour.unit[k],
-            energy: energy[k],
-        };
-        its.amounts_at(plant.units, k, drawn)
-    })
-}
-
 // What the allocation rests on in the record's hour.
-fn plant_of(day: HourSheet, hour: Record, commitment: [HubKwh; 8]) -> Plant
-    ensures { result ≡ plant_by day hour commitment }
+fn plant_of(day: &HourSheet, hour: &Record, commitment: &[HubKwh; 8]) -> Plant
+    ensures { result ≡ plant_by day.now hour.now commitment.now }
 {
-    let real = hour.unit.map(|unit| unit.real);
-    let nominal = day.nominal;
-    let offer = day.offer;
     Plant {
         loss: day.rates.loss,
         units: day.units,
-        real: real,
-        nominal: nominal,
-        commitment: commitment,
-        offer: offer,
+        unit: array::from_fn(|k| PlantUnit {
+            real: hour.unit[k].real,
+            nominal: day.unit[k].nominal,
+            commitment: commitment[k],
+            offer: day.unit[k].offer,
+        }),
     }
 }
 
-// An hour's energies and amounts, from what is used of the sheet, the record and the hour's commitments.
-pub fn settle_hour(day: HourSheet, hour: Record, commitment: [HubKwh; 8]) -> HourResult
-    requires { HourDue day hour commitment }
-    ensures { result ≡ hour_by day hour commitment }
-{
-    let rates = ReadyRates { hour: day.rates };
-    let own = day.own;
-    let plant = plant_of(day, hour, commitment);
-    let energy = allocation::allocate(hour.net, hour.reverse, plant);
-    let drawn = formulas::drawn_pay(hour.reverse, hour.net, day.ceiling, rates.hour.loss);
-    let amounts = hour_amounts(rates, plant, own, hour, energy, drawn);
-    HourResult {
-        energy: energy,
-        amounts: amounts,
+// An hour that may be settled: what is used of the sheet, the record and the hour's commitments, in the ranges that refusals 9 and 12 and the record's
+// reader see to.
+#[derive(Clone, Copy)]
+pub struct DueHour<'a> {
+    pub day: &'a HourSheet,
+    pub hour: &'a Record,
+    pub commitment: &'a [HubKwh; 8],
+    ghost in_range: { HourInRange day.now hour.now commitment.now },
+}
+
+impl DueHour<'_> {
+    // What of the drawn energy's price is due of the unit at place k: all of it of the lowest-numbered unit, nothing of the others.
+    #[tactic(auto, using(formulas::proofs::Laws::drawn_most))]
+    fn drawn_at(&self, k: usize) -> u64
+        ensures value { result ≡ drawn_by self.now.day.now self.now.hour.now k }
+        ensures most { result ≤ 80000000000 }
+    {
+        if !units::lowest_at(self.day.units, k) {
+            return 0;
+        }
+        formulas::drawn_pay(
+            self.hour.reverse,
+            self.hour.net,
+            self.day.ceiling,
+            self.day.rates.loss,
+        )
+    }
+
+    // The amounts of the place k by its energy, 0 outside the plant.
+    fn amounts_at(&self, k: usize, energy: HubGrains) -> Amounts
+        requires { (k < 8) × (energy.0 ≤ 80000000000) }
+        ensures { result ≡ place_amounts self.now.day.now self.now.hour.now self.now.commitment.now energy k }
+    {
+        if !units::member_at(self.day.units, k) {
+            return no_amounts();
+        }
+        let its = UnitHour {
+            rates: self.day.rates,
+            terms: &self.day.unit[k],
+            commitment: self.commitment[k],
+            unit: &self.hour.unit[k],
+            energy: energy,
+        };
+        its.amounts(self.drawn_at(k))
+    }
+
+    // The amounts of each place by the energies.
+    fn amounts(&self, energy: &[HubGrains; 8]) -> [Amounts; 8]
+        requires { (k : ℕ) → k < 8 → grains_at energy.now k ≤ 80000000000 }
+        ensures { result ≡ amounts_by self.now.day.now self.now.hour.now self.now.commitment.now energy.now }
+    {
+        array::from_fn(|k| self.amounts_at(k, energy[k]))
+    }
+
+    // The hour's energies and amounts.
+    pub fn settle_hour(&self) -> HourResult
+        ensures { result ≡ hour_by self.now.day.now self.now.hour.now self.now.commitment.now }
+    {
+        let plant = plant_of(self.day, self.hour, self.commitment);
+        let energy = allocation::allocate(self.hour.net, self.hour.reverse, &plant);
+        HourResult {
+            energy: energy,
+            amounts: self.amounts(&energy),
+        }
     }
 }
 
 // Whether each unit of the plant that has a deviation has a proportion over 0: refusal 33 where one has none.
-pub fn proportions_hold(day: HourSheet, hour: Record) -> bool
-    requires { HourGiven day hour }
-    ensures { result ≡ proportions_by day.units day.own hour }
+pub fn proportions_hold(day: &HourSheet, hour: &Record) -> bool
+    requires { HourGiven day.now hour.now }
+    ensures { result ≡ proportions_by day.now hour.now }
 {
-    (0..8).all(|k| deviation::proportioned_at(day.units, k, day.own[k], hour.unit[k]))
+    (0..8).all(|k| !units::member_at(day.units, k)
+        || deviation::is_proportioned(day.unit[k].own, &hour.unit[k]))
 }

@@ -3,14 +3,14 @@
 use mathlib.Core.Path.{◌≡◌, sym, ◌∙◌, ap}
 use mathlib.Core.List.{List}
 use Prim.Native.Nat.{ℕ, ◌-◌}
-use Rattle.offer.specs.declared.Offer.{Offer}
 use Rattle.sheet.specs.declared.Sheet.{Sheet}
+use Rattle.terms.specs.declared.UnitTerms.{UnitTerms}
 use Rattle.terms.specs.declared.HourSheet.{HourSheet}
-use Rattle.terms.specs.Terms.{hour_sheet_with, hour_offers, hour_sheet, hour_sheet_is}
+use Rattle.terms.specs.Terms.{units_terms, hour_sheet_with, hour_sheet, hour_sheet_is}
 
--- with the sheet's offers of the hour
-pub hour_taken : (sheet : Sheet) (hour : ℕ) (offer : List Offer) → offer ≡ hour_offers sheet (hour - 1) → hour_sheet_with sheet hour offer ≡ hour_sheet sheet hour
-hour_taken sheet hour offer e = ap (hour_sheet_with sheet hour) e ∙ sym (hour_sheet_is sheet hour)
+-- with what is used of the units' sheets
+pub hour_taken : (sheet : Sheet) (hour : ℕ) (unit : List UnitTerms) → unit ≡ units_terms sheet (hour - 1) → hour_sheet_with sheet hour unit ≡ hour_sheet sheet hour
+hour_taken sheet hour unit e = ap (hour_sheet_with sheet hour) e ∙ sym (hour_sheet_is sheet hour)
 
 -- the mask is the sheet's
 pub hour_units : (sheet : Sheet) (hour : ℕ) → (hour_sheet sheet hour).units ≡ sheet.units

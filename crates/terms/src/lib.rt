@@ -2,13 +2,11 @@
 #![tactic(auto)]
 
 ghost use Rattle.std.specs.Prelude.{◌≡◌, ℕ, ◌≤◌, ◌<◌};
-ghost use Rattle.finite.specs.Finite.{tabulate};
-ghost use Rattle.sheet.specs.Ranges.{unit_at as sheet_unit};
-ghost use Rattle.terms.specs.Terms.{hour_offers, hour_sheet};
+ghost use Rattle.terms.specs.Terms.{unit_terms, units_terms, hour_sheet};
 
 use energy::GrossKwh;
 use offer::Offer;
-use sheet::Sheet;
+use sheet::{Sheet, UnitSheet};
 use std::array;
 
 // What an hour's formulas use of the sheet: whether the day lies in the season, the plant's loss, the base
@@ -21,40 +19,44 @@ pub struct Rates {
     pub cpf: u64,
 }
 
-// What an hour's settlement uses of the sheet, by place: each unit's own use, nominal power and offer of the hour.
+// What an hour's settlement uses of a unit's sheet: its own use, its nominal power and its offer of the hour.
+#[derive(Clone, Copy)]
+pub struct UnitTerms {
+    pub own: u64,
+    pub nominal: GrossKwh,
+    pub offer: Offer,
+}
+
+// What an hour's settlement uses of the sheet. Place k of `unit` is that of unit k + 1.
 #[derive(Clone, Copy)]
 pub struct HourSheet {
     pub rates: Rates,
     pub ceiling: u64,
     pub units: u64,
-    pub own: [u64; 8],
-    pub nominal: [GrossKwh; 8],
-    pub offer: [Offer; 8],
+    pub unit: [UnitTerms; 8],
 }
 
-// Each unit's own use.
-fn own_of(sheet: &Sheet) -> [u64; 8]
-    ensures { result ≡ tabulate 8 (λ (k : ℕ). (sheet_unit sheet.now.unit k).own) }
-{
-    array::from_fn(|k| sheet.unit[k].own)
-}
-
-// Each unit's nominal power.
-fn nominal_of(sheet: &Sheet) -> [GrossKwh; 8]
-    ensures { result ≡ tabulate 8 (λ (k : ℕ). (sheet_unit sheet.now.unit k).nominal) }
-{
-    array::from_fn(|k| sheet.unit[k].nominal)
-}
-
-// Each unit's offer of the hour h, from 0.
-fn offers_of(sheet: &Sheet, h: usize) -> [Offer; 8]
+// What is used of a unit's sheet in the hour h, from 0.
+fn unit_terms(unit: &UnitSheet, h: usize) -> UnitTerms
     requires { h < 24 }
-    ensures { result ≡ hour_offers sheet.now h }
+    ensures { result ≡ unit_terms unit.now h }
 {
-    array::from_fn(|k| sheet.unit[k].offers[h])
+    UnitTerms {
+        own: unit.own,
+        nominal: unit.nominal,
+        offer: unit.offers[h],
+    }
 }
 
-// What an hour's settlement uses of the sheet.
+// What is used of each unit's.
+fn units_terms(sheet: &Sheet, h: usize) -> [UnitTerms; 8]
+    requires { h < 24 }
+    ensures { result ≡ units_terms sheet.now h }
+{
+    array::from_fn(|k| unit_terms(&sheet.unit[k], h))
+}
+
+// What an hour's settlement uses of the sheet. It takes parts of the sheet for the hour that it is told, so it is no `From`, which takes one value.
 #[tactic(auto, using(crate::proofs::Taken::hour_taken), unfolding(crate::specs::Terms::rates_of))]
 pub fn hour_sheet(sheet: &Sheet, hour: u64) -> HourSheet
     requires { (1 ≤ hour) × (hour ≤ 24) }
@@ -70,8 +72,6 @@ pub fn hour_sheet(sheet: &Sheet, hour: u64) -> HourSheet
         },
         ceiling: sheet.ceiling,
         units: sheet.units,
-        own: own_of(sheet),
-        nominal: nominal_of(sheet),
-        offer: offers_of(sheet, h),
+        unit: units_terms(sheet, h),
     }
 }

@@ -1,21 +1,12 @@
--- Each field is the definition's.
+-- What the plant has of each place is the definition's.
 -- Assumes nothing.
 use Rattle.std.proofs.Common.{rules}
-use Rattle.finite.proofs.Chains.{tabulate_map}
-use Rattle.record.specs.declared.UnitRecord.{UnitRecord}
-use Rattle.record.specs.Spans.{past_unit}
+use Rattle.finite.proofs.Chains.{tabulate_from_fn}
+use Rattle.settlement.specs.Ranges.{plant_unit_by}
 use Rattle.settlement.proofs.plant_of.Goals as goal
 
 pub returns : goal.returns
 returns c =
-    let a = c.args in
-    let real = tabulate_map (λ (u : UnitRecord). u.real) _ _ _ past_unit c.map-real.ensures.items (λ x y q k. search rules) in
-    λ i.
-    record {
-      loss = a.day.rates.loss;
-      units = a.day.units;
-      real = real i;
-      nominal = a.day.nominal;
-      commitment = a.commitment;
-      offer = a.day.offer;
-    }
+    let day = c.args.day.now in
+    let unit = tabulate_from_fn (plant_unit_by day c.args.hour.now c.args.commitment.now) _ _ c.from_fn.ensures.items (λ i y q l k. search rules) in
+    λ i. record { loss = day.rates.loss; units = day.units; unit = unit i }

@@ -20,18 +20,20 @@ use Rattle.settlement.proofs.UnitHour.amounts.Goals as goal
 -- D and the split are in range
 declared_most : (c : After-net_of-declared) → c.net_of-declared.result.0 ≤ 1000000
 declared_most c =
-    omega (arith, ap (λ (n : NetKwh). n.0) c.net_of-declared.ensures, net_le c.args.self.unit.declared c.args.self.own, c.requires.0.in_range.declared)
+    let s = c.args.self.now in
+    omega (arith, ap (λ (n : NetKwh). n.0) c.net_of-declared.ensures, net_le s.unit.now.declared s.terms.now.own, s.ready.in_range.declared)
 
 split_here : (c : After-split-d) → SplitReady c.split-d.result
-split_here c = rw c.split-d.ensures (split_ready c.args.self.own c.args.self.unit c.requires.0.in_range)
+split_here c = let s = c.args.self.now in rw c.split-d.ensures (split_ready s.terms.now.own s.unit.now s.ready.in_range)
 
-pub net_of-allowed-requires : goal.net_of-allowed-requires
-net_of-allowed-requires c =
-    let m = ceiling_most c.args.self.rates.hour.season c.args.self.unit.power in
-    (omega (arith, m, c.requires.0.in_range.power, ap (λ (g : GrossKwh). g.0) c.declaration_ceiling-ceiling.ensures), omega (arith, c.requires.0.own_use))
+pub net_of-requires : goal.net_of-requires
+net_of-requires c =
+    let s = c.args.self.now in
+    let m = ceiling_most s.rates.season s.unit.now.power in
+    omega (arith, m, s.ready.in_range.power, ap (λ (g : GrossKwh). g.0) c.declaration_ceiling-ceiling.ensures)
 
 pub availability_item-requires : goal.availability_item-requires
-availability_item-requires c = (declared_most (goal.at.availability_item-requires c).After-net_of-declared, c.requires.0.committed)
+availability_item-requires c = declared_most (goal.at.availability_item-requires c).After-net_of-declared
 
 pub refund_item-requires : goal.refund_item-requires
 refund_item-requires c = declared_most (goal.at.refund_item-requires c).After-net_of-declared
@@ -42,16 +44,15 @@ test_item-requires c = split_here (goal.at.test_item-requires c).After-split-d
 pub returns : goal.returns
 unfolding amounts_of
 returns c =
-    let a = c.args in
+    let s = c.args.self.now in
+    let u = s.unit.now in
     let n = c.net_of-declared.ensures in
-    let allowed = c.net_of-allowed.ensures ∙ ap (λ (g : GrossKwh). net_of g a.self.own) c.declaration_ceiling-ceiling.ensures in
+    let allowed = c.net_of.ensures ∙ ap (λ (g : GrossKwh). net_of g s.terms.now.own) c.declaration_ceiling-ceiling.ensures in
     let d = c.split-d.ensures in
     let paid = back _ c.energy_item.type_inv ∙ c.energy_item.ensures in
-    let available = back _ c.availability_item.type_inv ∙ (c.availability_item.ensures ∙ ap (λ (n : NetKwh). availability_item a.self.rates.hour n a.self.commitment) n) in
-    let refunded = back _ c.refund_item.type_inv ∙ (c.refund_item.ensures ∙ (λ i. refund_item a.self.rates.hour (n i) a.self.unit.real (d i) (allowed i))) in
+    let available = back _ c.availability_item.type_inv ∙ (c.availability_item.ensures ∙ ap (λ (n : NetKwh). availability_item s.rates n s.commitment) n) in
+    let refunded = back _ c.refund_item.type_inv ∙ (c.refund_item.ensures ∙ (λ i. refund_item s.rates (n i) u.real (d i) (allowed i))) in
     let tested =
-    back _ c.test_item.type_inv
-    ∙ (c.test_item.ensures
-    ∙ ap (λ (d : Deviations). test_item a.self.rates.hour a.self.unit.reading a.self.unit.repair a.self.unit.since d a.self.energy) d) in
+    back _ c.test_item.type_inv ∙ (c.test_item.ensures ∙ ap (λ (d : Deviations). test_item s.rates u.reading u.repair u.since d s.energy) d) in
     let owed = back _ c.owed.type_inv ∙ c.owed.ensures in
     λ i. record { item = paid i ∷ (available i ∷ (refunded i ∷ (tested i ∷ (owed i ∷ [])))) }
