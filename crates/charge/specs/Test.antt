@@ -1,5 +1,5 @@
 -- Item 4, the test, in Rial: 01, Five items, sentence by sentence. The differences of natural numbers below stop at 0, as 01's max(.., 0) says.
-use Rattle.std.specs.Prelude.{ℕ, ◌+◌, ◌*◌, ◌-◌, ◌/◌, ◌^◌, ◌≤◌, ◌<◌, min, Bool, true, false, cond, ◌||◌, Option, Some, None, List, [], ◌∷◌, ltb, eqb, get_or}
+use Rattle.std.specs.Prelude.{ℕ, ◌+◌, ◌*◌, ◌-◌, ◌/◌, ◌^◌, ◌≤◌, ◌<◌, min, Bool, true, false, cond, ◌&&◌, ◌||◌, Option, Some, None, List, [], ◌∷◌, ltb, eqb, get_or}
 use Rattle.finite.specs.Finite.{sum}
 use Rattle.energy.specs.declared.NetKwh.{NetKwh}
 use Rattle.energy.specs.declared.HubGrains.{HubGrains}
@@ -30,17 +30,11 @@ kind_weights =
 unfoldable pub kind_weight : ℕ → KindWeight
 kind_weight j = get_or kind_weights j (record { tenths = 0; exempt = false })
 
--- what counts of a kind's deviation: "(1 − repair) × d6" where `repair` exempts the kind, else all
-abbrev pub counted_of : KindWeight → NetKwh → ℕ → ℕ
-counted_of kind deviation repair = cond kind.exempt ((1 - repair) * deviation.0) deviation.0
-
+-- what counts of a deviation: "(1 − repair) × d6" where `repair` exempts its kind, else all
 unfoldable pub counted_at : Deviations → ℕ → ℕ → ℕ
-counted_at d repair j = counted_of (kind_weight j) (deviation_at d j) repair
+counted_at d repair j = cond (kind_weight j).exempt ((1 - repair) * (deviation_at d j).0) (deviation_at d j).0
 
 -- q: what counts of the kinds that have a weight
-abbrev pub in_q : KindWeight → NetKwh → ℕ → ℕ
-in_q kind deviation repair = cond (eqb kind.tenths 0) 0 (counted_of kind deviation repair)
-
 abbrev pub counted_part : Deviations → ℕ → ℕ → ℕ
 counted_part d repair j = cond (eqb (kind_weight j).tenths 0) 0 (counted_at d repair j)
 
@@ -57,14 +51,27 @@ unfoldable pub is_charged : NetKwh → Option NetKwh → HubGrains → ℕ → B
 is_charged q reading energy loss = ltb 2000 q.0 || over_reading q reading energy loss
 
 -- W: what counts of each kind, times its weight
-abbrev pub in_w : KindWeight → NetKwh → ℕ → ℕ
-in_w kind deviation repair = counted_of kind deviation repair * kind.tenths
-
 abbrev pub weighted_part : Deviations → ℕ → ℕ → ℕ
 weighted_part d repair j = counted_at d repair j * (kind_weight j).tenths
 
 unfoldable pub weighted : Deviations → ℕ → ℕ
 weighted d repair = sum kinds (weighted_part d repair)
+
+-- for the code: the same of one kind, by whether `repair` is over 0; `q_same` and `w_same` (proofs/Weights.antt) say so
+abbrev pub counted_of : KindWeight → NetKwh → Bool → ℕ
+counted_of kind deviation repaired = cond (kind.exempt && repaired) 0 deviation.0
+
+abbrev pub in_q : KindWeight → NetKwh → Bool → ℕ
+in_q kind deviation repaired = cond (eqb kind.tenths 0) 0 (counted_of kind deviation repaired)
+
+abbrev pub in_w : KindWeight → NetKwh → Bool → ℕ
+in_w kind deviation repaired = counted_of kind deviation repaired * kind.tenths
+
+abbrev pub q_part : Deviations → Bool → ℕ → ℕ
+q_part d repaired j = in_q (kind_weight j) (deviation_at d j) repaired
+
+abbrev pub w_part : Deviations → Bool → ℕ → ℕ
+w_part d repaired j = in_w (kind_weight j) (deviation_at d j) repaired
 
 -- "b = W × 125 × cpf × bar / 10^9 down"
 unfoldable pub base_charge : ℕ → ℕ → ℕ → ℕ

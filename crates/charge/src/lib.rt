@@ -4,7 +4,7 @@
 ghost use Rattle.std.specs.Prelude.{◌≡◌, ◌≤◌, ◌<◌, ◌^◌, ℕ};
 ghost use Rattle.finite.specs.Finite.{tabulate};
 ghost use Rattle.formulas.specs.Items.{kinds};
-ghost use Rattle.charge.specs.Test.{counted_of, in_q, in_w, counted_part, counted_deviation, is_charged, weighted_part, weighted as the_weighted, base_charge, growth as the_growth, hours_counted, charge_of, NearExact};
+ghost use Rattle.charge.specs.Test.{counted_of, in_q, in_w, q_part, w_part, counted_deviation, is_charged, weighted as the_weighted, base_charge, growth as the_growth, hours_counted, charge_of, NearExact};
 
 use energy::{Energy, HubGrains, NetKwh};
 use formulas::{AvailabilityRate, Deviations, KINDS};
@@ -58,10 +58,10 @@ const KIND_WEIGHTS: [KindWeight; KINDS] = [
 
 impl KindWeight {
     // What counts of a deviation of the kind: nothing on a repair day that exempts it.
-    fn counted(self, deviation: NetKwh, repair: u64) -> NetKwh
-        ensures { result.0 ≡ counted_of self deviation repair }
+    fn counted(self, deviation: NetKwh, repaired: bool) -> NetKwh
+        ensures { result.0 ≡ counted_of self deviation repaired }
     {
-        if repair != 0 && self.exempt {
+        if self.exempt && repaired {
             return NetKwh(0);
         }
         deviation
@@ -69,39 +69,38 @@ impl KindWeight {
 
     // What q takes of it: nothing of a kind without a weight.
     #[tactic(auto, using(std::proofs::lemmas::Bool::Decides::nat_tests))]
-    fn in_q(self, deviation: NetKwh, repair: u64) -> u64
-        ensures { result ≡ in_q self deviation repair }
+    fn in_q(self, deviation: NetKwh, repaired: bool) -> u64
+        ensures { result ≡ in_q self deviation repaired }
     {
         if self.tenths == 0 {
             return 0;
         }
-        self.counted(deviation, repair).amount()
+        self.counted(deviation, repaired).amount()
     }
 
     // What W takes of it.
-    fn in_w(self, deviation: NetKwh, repair: u64) -> u64
-        requires { in_w self deviation repair < 2 ^ 64 }
-        ensures { result ≡ in_w self deviation repair }
+    fn in_w(self, deviation: NetKwh, repaired: bool) -> u64
+        requires { in_w self deviation repaired < 2 ^ 64 }
+        ensures { result ≡ in_w self deviation repaired }
     {
-        self.counted(deviation, repair).product(self.tenths)
+        self.counted(deviation, repaired).product(self.tenths)
     }
 }
 
 // What q takes of each kind.
 #[tactic(auto, unfolding(crate::specs::Test::kind_weights, crate::specs::Test::kind_weight))]
-fn counted_parts(d: Deviations, repair: u64) -> [u64; KINDS]
-    ensures { result ≡ tabulate kinds (counted_part d repair) }
+fn counted_parts(d: Deviations, repaired: bool) -> [u64; KINDS]
+    ensures { result ≡ tabulate kinds (q_part d repaired) }
 {
-    array::from_fn(|j| KIND_WEIGHTS[j].in_q(d.kwh[j], repair))
+    array::from_fn(|j| KIND_WEIGHTS[j].in_q(d.kwh[j], repaired))
 }
 
 // The counted deviation q.
-#[tactic(auto, unfolding(crate::specs::Test::counted_deviation))]
 pub fn counted_deviation(d: Deviations, repair: u64) -> NetKwh
     requires { (counted_deviation d repair).0 < 2 ^ 64 }
     ensures { result ≡ counted_deviation d repair }
 {
-    NetKwh(counted_parts(d, repair).iter().sum())
+    NetKwh(counted_parts(d, repair != 0).iter().sum())
 }
 
 // Whether the counted deviation is charged: over 2,000 kWh, or twenty times it over the reading; of an unmeasured unit, twenty times it
@@ -121,21 +120,20 @@ pub fn is_charged(q: NetKwh, reading: Option<NetKwh>, energy: HubGrains, loss: u
 }
 
 // What W takes of each kind.
-#[tactic(auto, unfolding(crate::specs::Test::kind_weights, crate::specs::Test::kind_weight, crate::specs::Test::counted_at))]
-fn weighted_parts(d: Deviations, repair: u64) -> [u64; KINDS]
-    requires { (j : ℕ) → j < kinds → weighted_part d repair j < 2 ^ 64 }
-    ensures { result ≡ tabulate kinds (weighted_part d repair) }
+#[tactic(auto, unfolding(crate::specs::Test::kind_weights, crate::specs::Test::kind_weight))]
+fn weighted_parts(d: Deviations, repaired: bool) -> [u64; KINDS]
+    requires { (j : ℕ) → j < kinds → w_part d repaired j < 2 ^ 64 }
+    ensures { result ≡ tabulate kinds (w_part d repaired) }
 {
-    array::from_fn(|j| KIND_WEIGHTS[j].in_w(d.kwh[j], repair))
+    array::from_fn(|j| KIND_WEIGHTS[j].in_w(d.kwh[j], repaired))
 }
 
 // The weighted deviation W, in tenths of a kWh.
-#[tactic(auto, unfolding(crate::specs::Test::weighted))]
 pub fn weighted(d: Deviations, repair: u64) -> u64
     requires { the_weighted d repair < 2 ^ 64 }
     ensures { result ≡ the_weighted d repair }
 {
-    weighted_parts(d, repair).iter().sum()
+    weighted_parts(d, repair != 0).iter().sum()
 }
 
 // The charge of the first hour, b.

@@ -137,7 +137,7 @@ pub fn no_amounts() -> Amounts
     }
 }
 
-// What the allocation rests on in the record's hour.
+// What the allocation rests on in the record's hour. It is made of three values, so it is no `From`, which takes one.
 fn plant_of(day: &HourSheet, hour: &Record, commitment: &[HubKwh; 8]) -> Plant
     ensures { result ≡ plant_by day.now hour.now commitment.now }
 {
@@ -182,8 +182,9 @@ impl DueHour<'_> {
     }
 
     // The amounts of the place k by its energy, 0 outside the plant.
+    #[tactic(auto, using(units::proofs::Laws::place_lt))]
     fn amounts_at(&self, k: usize, energy: HubGrains) -> Amounts
-        requires { (k < 8) × (energy.0 ≤ 80000000000) }
+        requires { energy.0 ≤ 80000000000 }
         ensures { result ≡ place_amounts self.now.day.now self.now.hour.now self.now.commitment.now energy k }
     {
         if !units::member_at(self.day.units, k) {

@@ -2,9 +2,9 @@
 -- Assumes nothing.
 use Rattle.std.proofs.Common.{rules}
 use Rattle.finite.proofs.Chains.{tabulate_from_fn}
-use Rattle.charge.specs.Test.{kind_weights, kind_weight, counted_at, counted_part}
+use Rattle.charge.specs.Test.{kind_weights, kind_weight, q_part}
 use Rattle.charge.proofs.counted_parts.Goals as goal
 
 pub returns : goal.returns
-unfolding kind_weights kind_weight counted_at
-returns c = tabulate_from_fn (counted_part c.args.d c.args.repair) _ _ c.from_fn.ensures.items (λ i y q l k. search rules)
+unfolding kind_weights kind_weight
+returns c = tabulate_from_fn (q_part c.args.d c.args.repaired) _ _ c.from_fn.ensures.items (λ i y q l k. search rules)

@@ -8,4 +8,4 @@ pub invariant_of-its : goal.invariant_of-its
 invariant_of-its c =
     let s = c.args.self.now in
     let m : member_at s.day.now.units c.args.k ≡ true = search rules in
-    record { rated = s.in_range.rates; ready = s.in_range.unit c.args.k m c.args.energy c.requires.1 }
+    record { rated = s.in_range.rates; ready = s.in_range.unit c.args.k m c.args.energy c.requires }
