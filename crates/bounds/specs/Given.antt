@@ -1,10 +1,11 @@
 -- What every call is given, what 9 and 12 say of it (01, table of refusals), and a good sheet, book and journal with each of their
 -- values to be put in. Hours, units, items and steps are counted from 1.
-use Rattle.std.specs.Prelude.{cond, ◌&&◌, List, [], ◌∷◌, ℕ, ◌-◌, ℤ, pos, negsuc, length, take, set, replicate, Ok, Err}
+use Rattle.std.specs.Prelude.{cond, ◌&&◌, List, [], ◌∷◌, ℕ, ◌*◌, ◌-◌, ℤ, pos, negsuc, length, take, set, replicate, Ok, Err}
 use Rattle.finite.specs.Finite.{tabulate}
 use Rattle.energy.specs.declared.GrossKwh.{GrossKwh}
 use Rattle.energy.specs.declared.HubKwh.{HubKwh}
 use Rattle.energy.specs.declared.HubGrains.{HubGrains}
+use Rattle.offer.specs.declared.Step.{Step}
 use Rattle.offer.specs.declared.Offer.{Offer}
 use Rattle.sheet.specs.declared.UnitSheet.{UnitSheet}
 use Rattle.sheet.specs.declared.Sheet.{Sheet}
@@ -41,8 +42,7 @@ number_of (Err r) = refusal_number r
 -- the journal, what stands past the count, and all but the amount of what is counted
 pub record Free : Type 0 where
   pub outside : ℕ → UnitSheet
-  pub quantities : List HubKwh
-  pub prices : List ℕ
+  pub later_steps : List Step
   pub contents : ℕ → Posting
 
 abbrev pub hub : ℕ → HubKwh
@@ -54,24 +54,32 @@ gross n = record { 0 = n }
 abbrev pub grains : ℕ → HubGrains
 grains n = record { 0 = n }
 
+-- a pair quantity:price
+abbrev pub pair : ℕ → ℕ → Step
+pair quantity price = record { quantity = hub quantity; price = price }
+
 -- the offer 50000:380000,110000:390000,130000:440000
 abbrev pub good_offer : Free → Offer
 good_offer free =
-    record {
-      steps = 3;
-      quantity = hub 50000 ∷ hub 110000 ∷ hub 130000 ∷ free.quantities;
-      price = 380000 ∷ 390000 ∷ 440000 ∷ free.prices;
-    }
+    record { steps = 3; step = pair 50000 380000 ∷ pair 110000 390000 ∷ pair 130000 440000 ∷ free.later_steps }
 
 -- ten steps, 10:100,20:200, .., 100:1000
-abbrev pub ten_quantities : List HubKwh
-ten_quantities = hub 10 ∷ hub 20 ∷ hub 30 ∷ hub 40 ∷ hub 50 ∷ hub 60 ∷ hub 70 ∷ hub 80 ∷ hub 90 ∷ hub 100 ∷ []
+abbrev pub ten_steps : List Step
+ten_steps =
+    pair 10 100
+    ∷ pair 20 200
+    ∷ pair 30 300
+    ∷ pair 40 400
+    ∷ pair 50 500
+    ∷ pair 60 600
+    ∷ pair 70 700
+    ∷ pair 80 800
+    ∷ pair 90 900
+    ∷ pair 100 1000
+    ∷ []
 
-abbrev pub ten_prices : List ℕ
-ten_prices = 100 ∷ 200 ∷ 300 ∷ 400 ∷ 500 ∷ 600 ∷ 700 ∷ 800 ∷ 900 ∷ 1000 ∷ []
-
-abbrev pub offer_of : ℕ → List HubKwh → List ℕ → Offer
-offer_of steps quantity price = record { steps = steps; quantity = quantity; price = price }
+abbrev pub offer_of : ℕ → List Step → Offer
+offer_of steps step = record { steps = steps; step = step }
 
 abbrev pub unit_of : (own nominal monthly : ℕ) → List Offer → UnitSheet
 unit_of own nominal monthly offers = record { own = own; nominal = gross nominal; monthly = gross monthly; offers = offers }
@@ -196,14 +204,14 @@ abbrev pub monthly : ℕ → Free → ℕ → Given
 monthly unit free n = with_unit free unit (unit_of 300 120000 n (good_offers free))
 
 abbrev pub steps : (hour unit : ℕ) → Free → ℕ → Given
-steps hour unit free n = with_offer free hour unit (offer_of n ten_quantities ten_prices)
+steps hour unit free n = with_offer free hour unit (offer_of n ten_steps)
 
 -- of an offer of ten steps
 abbrev pub quantity : (hour unit step : ℕ) → Free → ℕ → Given
-quantity hour unit step free n = with_offer free hour unit (offer_of 10 (set ten_quantities (step - 1) (hub n)) ten_prices)
+quantity hour unit step free n = with_offer free hour unit (offer_of 10 (set ten_steps (step - 1) (pair n (100 * step))))
 
 abbrev pub price : (hour unit step : ℕ) → Free → ℕ → Given
-price hour unit step free n = with_offer free hour unit (offer_of 10 ten_quantities (set ten_prices (step - 1) n))
+price hour unit step free n = with_offer free hour unit (offer_of 10 (set ten_steps (step - 1) (pair (10 * step) n)))
 
 -- the values of the book
 abbrev pub entry : (hour unit : ℕ) → ℕ
@@ -218,7 +226,7 @@ commitment hour unit free n = with_book free (committed hour unit n)
 -- under an offer of so many of the ten steps in that hour
 abbrev pub commitment_under : ℕ → (hour unit : ℕ) → Free → ℕ → Given
 commitment_under steps hour unit free n =
-    given (sheet_with free unit (offering free hour (offer_of steps ten_quantities ten_prices))) (committed hour unit n) 3 (good_journal free)
+    given (sheet_with free unit (offering free hour (offer_of steps ten_steps))) (committed hour unit n) 3 (good_journal free)
 
 abbrev pub mark : ℕ → Free → ℕ → Given
 mark hour free n = with_book free (book_of no_commitments (set open_hours (hour - 1) n) no_energies no_amounts)

@@ -4,15 +4,15 @@
 
 ghost use Rattle.std.specs.Prelude.{◌≡◌, true, ℕ, ◌≤◌, ◌<◌, get_or};
 ghost use Rattle.offer.specs.Offer.{offer_holds};
-ghost use Rattle.allocation.specs.Allocation.{PlantHolds};
+ghost use Rattle.allocation.specs.Allocation.{UnitHolds, PlantHolds};
 ghost use Rattle.record.specs.Empty.{no_span};
 ghost use Rattle.record.specs.InRange.{SpanInRange};
-ghost use Rattle.charge.specs.Test.{Bounded, weighted};
+ghost use Rattle.charge.specs.Test.{counted_deviation, weighted};
 
-use allocation::Plant;
+use allocation::{Plant, PlantUnit};
 use energy::{Energy, GrossKwh, HubGrains, HubKwh, NetKwh};
-use formulas::{AvailabilityRate, Deviations};
-use offer::Offer;
+use formulas::{AvailabilityRate, Declaration, Deviations};
+use offer::{ModifiedOffer, Offer, Step};
 use record::{Span, UnitRecord};
 use std::io;
 use std::io::{BufWriter, Write};
@@ -31,52 +31,57 @@ fn say_next<W: Write>(out: &mut W, n: u64) -> io::Result<()> {
     say_number(out, n)
 }
 
+fn step(quantity: u64, price: u64) -> Step
+    ensures { result ≡ record { quantity = record { 0 = quantity }; price = price } }
+{
+    Step {
+        quantity: HubKwh(quantity),
+        price,
+    }
+}
+
 // An offer of two steps.
 fn two_steps(quantity: u64, price: u64, next_quantity: u64, next_price: u64) -> Offer
     requires { (1 ≤ quantity) × (quantity < next_quantity) × (next_quantity ≤ 1000000) × (price ≤ next_price) × (next_price ≤ 10000000) }
     ensures { offer_holds result ≡ true }
 {
-    let mut quantities = [HubKwh(0); 10];
-    quantities[0] = HubKwh(quantity);
-    quantities[1] = HubKwh(next_quantity);
-    let mut prices = [0u64; 10];
-    prices[0] = price;
-    prices[1] = next_price;
-    Offer {
-        steps: 2,
-        quantity: quantities,
-        price: prices,
+    let mut offer = offer::no_offer();
+    offer.steps = 2;
+    offer.step[0] = step(quantity, price);
+    offer.step[1] = step(next_quantity, next_price);
+    offer
+}
+
+// A unit of example 12.
+fn unit_12(real: u64, commitment: u64, offer: Offer) -> PlantUnit
+    requires { (real ≤ 1000000) × (commitment ≤ 1000000) × (offer_holds offer ≡ true) }
+    ensures { UnitHolds result }
+{
+    PlantUnit {
+        real: NetKwh(real),
+        nominal: GrossKwh(100000),
+        commitment: HubKwh(commitment),
+        offer,
     }
 }
 
-// The plant of example 12 in its first case: three units.
+// The plant of example 12 in its first case: three units. What stands in the other places does not count.
 fn plant_12() -> Plant
     ensures { PlantHolds result }
 {
-    let mut real = [NetKwh(0); 8];
-    real[0] = NetKwh(120000);
-    real[1] = NetKwh(150000);
-    real[2] = NetKwh(130000);
-    let mut commitment = [HubKwh(0); 8];
-    commitment[0] = HubKwh(20000);
-    commitment[1] = HubKwh(50000);
-    let mut offers = [offer::no_offer(); 8];
-    offers[0] = two_steps(50000, 380000, 130000, 440000);
-    offers[1] = two_steps(110000, 370000, 160000, 444000);
-    offers[2] = two_steps(80000, 390000, 140000, 430000);
+    let mut unit = [unit_12(130000, 0, two_steps(80000, 390000, 140000, 430000)); 8];
+    unit[0] = unit_12(120000, 20000, two_steps(50000, 380000, 130000, 440000));
+    unit[1] = unit_12(150000, 50000, two_steps(110000, 370000, 160000, 444000));
     Plant {
         loss: 100,
         units: 7,
-        real: real,
-        nominal: [GrossKwh(100000); 8],
-        commitment: commitment,
-        offer: offers,
+        unit,
     }
 }
 
 // The shares of the three units, in grains.
 fn example_12<W: Write>(out: &mut W) -> io::Result<()> {
-    let energy = allocation::allocate(NetKwh(320000), NetKwh(0), plant_12());
+    let energy = allocation::allocate(NetKwh(320000), NetKwh(0), &plant_12());
     say(out, b"12")?;
     say_next(out, energy[0].0)?;
     say_next(out, energy[1].0)?;
@@ -117,7 +122,7 @@ fn split_example<W: Write>(
         spans: spans,
         span: span,
     };
-    let d = deviation::split(100, u);
+    let d = deviation::split(100, &u);
     say(out, name)?;
     say_next(out, d.kwh[0].0)?;
     say_next(out, d.kwh[1].0)?;
@@ -201,7 +206,7 @@ fn example_21<W: Write>(out: &mut W) -> io::Result<()> {
 // A deviation of kinds 2, 3, 5, 6 and 8.
 fn of_kinds(d2: u64, d3: u64, d5: u64, d6: u64, d8: u64) -> Deviations
     requires { (d2 ≤ 100000) × (d3 ≤ 100000) × (d5 ≤ 100000) × (d6 ≤ 100000) × (d8 ≤ 100000) }
-    ensures { Bounded result × (weighted result 0 ≤ 10000000) × (weighted result 1 ≤ 10000000) }
+    ensures { (repair : ℕ) → ((counted_deviation result repair).0 ≤ 10000000) × (weighted result repair ≤ 10000000) }
 {
     Deviations {
         kwh: [
@@ -219,7 +224,7 @@ fn of_kinds(d2: u64, d3: u64, d5: u64, d6: u64, d8: u64) -> Deviations
 // A deviation of kind 8 alone.
 fn of_kind_8(d8: u64) -> Deviations
     requires { d8 ≤ 100000 }
-    ensures { Bounded result × (weighted result 0 ≤ 10000000) × (weighted result 1 ≤ 10000000) }
+    ensures { (repair : ℕ) → ((counted_deviation result repair).0 ≤ 10000000) × (weighted result repair ≤ 10000000) }
 {
     of_kinds(0, 0, 0, 0, d8)
 }
@@ -234,7 +239,7 @@ fn test_example<W: Write>(
     since: u64,
     cpf: u64,
 ) -> io::Result<()>
-    requires { Bounded d × (weighted d repair ≤ 10000000) × (cpf ≤ 10000) }
+    requires { ((counted_deviation d repair).0 ≤ 10000000) × (weighted d repair ≤ 10000000) × (cpf ≤ 10000) }
 {
     let q = charge::counted_deviation(d, repair);
     say(out, name)?;
@@ -260,18 +265,23 @@ fn refund_example<W: Write>(
     d: Deviations,
     a: GrossKwh,
 ) -> io::Result<()>
-    requires { (real.0 ≤ 1000000) × Bounded d × (a.0 ≤ 1000000) }
+    requires { a.0 ≤ 1000000 }
 {
     let declared = NetKwh(98000);
     let allowed = energy::net_of(a, 200);
-    let short = formulas::refund_kwh(declared, real, d, allowed);
+    let declaration = Declaration {
+        declared,
+        real,
+        deviations: d,
+        allowed,
+    };
     say(out, name)?;
-    say_next(out, short.0)?;
+    say_next(out, declaration.refund_kwh().0)?;
     let rate = AvailabilityRate {
         cpf: 1500,
         bar: 185000,
     };
-    say_next(out, formulas::refund(declared, real, d, allowed, rate))?;
+    say_next(out, declaration.refund(rate))?;
     say(out, b"\n")
 }
 
@@ -279,23 +289,24 @@ fn refund_example<W: Write>(
 fn four_steps() -> Offer
     ensures { offer_holds result ≡ true }
 {
-    let mut quantities = [HubKwh(0); 10];
-    quantities[0] = HubKwh(59000);
-    quantities[1] = HubKwh(127000);
-    quantities[2] = HubKwh(199000);
-    quantities[3] = HubKwh(249000);
-    Offer {
-        steps: 4,
-        quantity: quantities,
-        price: [272000, 386000, 394000, 440000, 0, 0, 0, 0, 0, 0],
-    }
+    let mut offer = offer::no_offer();
+    offer.steps = 4;
+    offer.step[0] = step(59000, 272000);
+    offer.step[1] = step(127000, 386000);
+    offer.step[2] = step(199000, 394000);
+    offer.step[3] = step(249000, 440000);
+    offer
 }
 
 // What a unit is paid for so much energy by that offer, without a commitment.
 fn energy_example<W: Write>(out: &mut W, number: u64, energy: HubGrains) -> io::Result<()>
     requires { energy.0 ≤ 100000000000 }
 {
-    let cost = offer::cost_between(four_steps(), HubKwh(0), HubGrains(0), energy);
+    let modified = ModifiedOffer {
+        offer: &four_steps(),
+        commitment: HubKwh(0),
+    };
+    let cost = modified.cost_between(HubGrains(0), energy);
     say_number(out, number)?;
     say_next(out, formulas::energy_pay(cost))?;
     say(out, b"\n")

@@ -5,6 +5,7 @@ use Rattle.energy.specs.declared.NetKwh.{NetKwh}
 use Rattle.energy.specs.declared.HubKwh.{HubKwh}
 use Rattle.energy.specs.declared.HubGrains.{HubGrains}
 use Rattle.energy.specs.Energy.{net_of}
+use Rattle.offer.specs.declared.Step.{Step}
 use Rattle.offer.specs.declared.Offer.{Offer}
 use Rattle.sheet.specs.declared.UnitSheet.{UnitSheet}
 use Rattle.sheet.specs.declared.Sheet.{Sheet}
@@ -45,10 +46,12 @@ cpf = 1000
 abbrev pub bar : ℕ
 bar = 100000
 
--- an offer of two steps
+-- a step of an offer, and an offer of two steps
+abbrev pub step_of : ℕ → ℕ → Step
+step_of q p = record { quantity = hub q; price = p }
+
 abbrev pub two_steps : ℕ → ℕ → ℕ → ℕ → Offer
-two_steps q p q' p' =
-    record { steps = 2; quantity = hub q ∷ (hub q' ∷ replicate 8 (hub 0)); price = p ∷ (p' ∷ replicate 8 0) }
+two_steps q p q' p' = record { steps = 2; step = step_of q p ∷ (step_of q' p' ∷ replicate 8 (step_of 0 0)) }
 
 -- "`ceiling`, `nominal`, `monthly` and other hours' offers any allowed": of units 1 to 3, by unit; and what stands in the places of
 -- units outside the plant

@@ -6,8 +6,8 @@ use Prim.Native.Nat.{ℕ, ◌+◌, ◌*◌, ◌/◌, ◌%◌, ◌≤◌, ◌<◌
 use native.Mathlib.Omega.{arith}
 use lib.ListN.{get_or}
 use Rattle.finite.proofs.Tables.{get_d_tabulate}
-use Rattle.energy.specs.declared.HubKwh.{HubKwh}
-use Rattle.offer.specs.Offer.{quantity_at, step_price, offer_holds}
+use Rattle.offer.specs.declared.Step.{Step}
+use Rattle.offer.specs.Offer.{no_step, quantity_at, step_price, offer_holds}
 use Rattle.offer.proofs.Steps.{Holds, holds_back}
 use Rattle.text.specs.declared.Line.{Line}
 use Rattle.values.proofs.Fits.{Fits, part_of}
@@ -15,7 +15,7 @@ use Rattle.values.proofs.Parts.{part_of_lem}
 use Rattle.values.proofs.Pairs.{Over, rises_at}
 use Rattle.lines.proofs.Reading.{Keeps, keeps_open}
 use Rattle.sheet_lines.specs.Rows.{offer_row}
-use Rattle.sheet_text.specs.Day.{offer_by}
+use Rattle.sheet_text.specs.Day.{step_by, offer_by}
 
 module _ (l : Line) (keeps : Keeps offer_row l) where
   fits : Fits offer_row l
@@ -60,11 +60,11 @@ module _ (l : Line) (keeps : Keeps offer_row l) where
 
   quantity_is : (s : ℕ) → s < 10 → (quantity_at (offer_by l) s).0 ≡ at (2 * s)
   unfolding offer_by at
-  quantity_is s h = ap (λ (q : HubKwh). q.0) (get_d_tabulate 10 (λ s. record { 0 = get_or l.number (2 * s) 0 }) s (record { 0 = 0 }) h)
+  quantity_is s h = ap (λ (t : Step). t.quantity.0) (get_d_tabulate 10 (step_by l) s no_step h)
 
   price_is : (s : ℕ) → s < 10 → step_price (offer_by l) s ≡ at (2 * s + 1)
   unfolding offer_by at
-  price_is s h = get_d_tabulate 10 (λ s. get_or l.number (2 * s + 1) 0) s 0 h
+  price_is s h = ap (λ (t : Step). t.price) (get_d_tabulate 10 (step_by l) s no_step h)
 
   few : (s : ℕ) → s < l.count / 2 → s < 10
   few s h = omega (arith, count_few)

@@ -2,6 +2,7 @@
 use Rattle.std.specs.Prelude.{ℕ, ◌+◌, ◌*◌, ◌/◌, cond, List, Result, Ok, Err, drop, get_or}
 use Rattle.finite.specs.Finite.{tabulate}
 use Rattle.units.specs.Units.{member_at, members}
+use Rattle.offer.specs.declared.Step.{Step}
 use Rattle.offer.specs.declared.Offer.{Offer}
 use Rattle.text.specs.declared.Line.{Line}
 use Rattle.lines.specs.Lines.{Reading, line_of, number_of}
@@ -14,12 +15,14 @@ use Rattle.sheet_lines.specs.Rows.{loss_line, ceiling_line, bar_line, cpf_line, 
 use Rattle.sheet.specs.Empty.{no_unit, no_sheet}
 
 -- the pairs quantity:price of a line
+abbrev pub step_by : Line → ℕ → Step
+step_by l s = record { quantity = record { 0 = get_or l.number (2 * s) 0 }; price = get_or l.number (2 * s + 1) 0 }
+
 unfoldable pub offer_by : Line → Offer
 offer_by l =
     record {
       steps = l.count / 2;
-      quantity = tabulate 10 (λ s. record { 0 = get_or l.number (2 * s) 0 });
-      price = tabulate 10 (λ s. get_or l.number (2 * s + 1) 0);
+      step = tabulate 10 (step_by l);
     }
 
 -- block j of the units; f k is line k, from 0

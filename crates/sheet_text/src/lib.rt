@@ -7,7 +7,7 @@ ghost use Rattle.sheet_text.specs.Day.{offer_by, unit_by, place_by, sheet_by, to
 
 use energy::{GrossKwh, HubKwh};
 use lines::TextRefusal;
-use offer::Offer;
+use offer::{Offer, Step};
 use sheet::{Sheet, UnitSheet};
 use std::array;
 use text::Line;
@@ -25,8 +25,10 @@ fn offer_by(line: &Line) -> Offer
 {
     Offer {
         steps: line.count / 2,
-        quantity: array::from_fn(|s| HubKwh(line.number[2 * s])),
-        price: array::from_fn(|s| line.number[2 * s + 1]),
+        step: array::from_fn(|s| Step {
+            quantity: HubKwh(line.number[2 * s]),
+            price: line.number[2 * s + 1],
+        }),
     }
 }
 

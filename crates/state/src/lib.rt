@@ -111,7 +111,7 @@ pub fn limit_of(member: bool, offer: Offer) -> HubKwh
     ensures { result ≡ limit_of member offer }
 {
     if member {
-        offer::last_quantity(offer)
+        offer::last_quantity(&offer)
     } else {
         HubKwh(0)
     }

@@ -7,4 +7,4 @@ use Rattle.examples.proofs.four_steps.Goals as goal
 
 pub returns : goal.returns
 unfolding offer_holds steps_allowed every in_range in_order
-returns c = refl
+returns c = rw (c.no_offer-offer.ensures, c.step.ensures, c.step-2.ensures, c.step-3.ensures, c.step-4.ensures) refl

@@ -9,5 +9,5 @@ returns c =
     record {
       lost = search rules;
       some = search rules;
-      each = three_units _ _ _ _ c.two_steps.ensures c.two_steps-2.ensures c.two_steps-3.ensures;
+      each = three_units _ _ _ c.unit_12.ensures c.unit_12-2.ensures c.unit_12-unit.ensures;
     }
