@@ -3,7 +3,7 @@
 
 ghost use Rattle.std.specs.Prelude.{◌≡◌, ◌≢◌, ℕ, ◌+◌, ◌^◌, ◌≤◌, ◌<◌, cond, IfOk, Ok, Err};
 ghost use Rattle.lines.specs.Lines.{Reading, read_line, line_at, place_after};
-ghost use Rattle.lines.specs.Cells.{line_in, Kept, cursor_of, cursors, ending};
+ghost use Rattle.lines.specs.Cells.{line_in, Kept, cursor_of, cursors, lent, ending};
 ghost use Rattle.lines.specs.Refusals.{text_number, bad_start, no_start};
 
 use text::{Line, Row, TextFault};
@@ -51,9 +51,9 @@ pub fn start_in(text: &[u8], start: u64) -> Result<usize, TextRefusal>
     Ok(start as usize)
 }
 
-// The line at a place, by its row: it is cut out of the text up to its LF, and its value out of the line. Beside it the place behind it.
-fn line_at(text: &[u8], at: usize, row: Row) -> Result<(Line, usize), TextFault>
-    ensures { result ≡ ending (place_after text.now at) (line_at text.now at row) }
+// The line at a place, by its row, and the place behind it: it is cut out of the text up to its LF, and its value out of the line.
+fn line_at(text: &[u8], at: usize, row: &Row, read: &mut Line) -> Result<usize, TextFault>
+    ensures { lent result read.new ≡ ending (place_after text.now at) (line_at text.now at row.now) }
 {
     let end = text::find(text, at, b'\n');
     if text.len() <= end {
@@ -63,21 +63,22 @@ fn line_at(text: &[u8], at: usize, row: Row) -> Result<(Line, usize), TextFault>
     if !text::key_is(line, row.key) {
         return Err(TextFault::NotDue);
     }
-    let read = values::read_value(text::value_of(line), row)?;
-    Ok((read, end + 1))
+    values::read_value(text::value_of(line), row, read)?;
+    Ok(end + 1)
 }
 
-// The line due, by its row, kept where there is room for it.
-pub fn read_line(text: &[u8], row: Row, c: Cursor, kept: &mut [Line]) -> Result<Cursor, TextRefusal>
+// The line due, by its row, kept where there is room for it. A refused line is not kept, so a line is read beside the list first.
+pub fn read_line(text: &[u8], row: &Row, c: Cursor, kept: &mut [Line]) -> Result<Cursor, TextRefusal>
     requires lines_bound { c.lines < 2 ^ 32 }
-    ensures cursor { (s : Reading) → c ≡ cursor_of s → result ≡ cursors (read_line text.now row s) }
-    ensures kept { (s : Reading) (t : Reading) → c ≡ cursor_of s → Kept kept.old s.lines → read_line text.now row s ≡ Ok t → Kept kept.new t.lines }
+    ensures cursor { (s : Reading) → c ≡ cursor_of s → result ≡ cursors (read_line text.now row.now s) }
+    ensures kept { (s : Reading) (t : Reading) → c ≡ cursor_of s → Kept kept.old s.lines → read_line text.now row.now s ≡ Ok t → Kept kept.new t.lines }
     ensures lines_bound_2 { IfOk result (λ d. d.lines ≡ c.lines + 1) }
     ensures elsewhere { (j : ℕ) → j ≢ c.lines → line_in kept.new j ≡ line_in kept.old j }
     ensures refused { (r : TextRefusal) → result ≡ Err r → (r.line ≡ c.lines + 1) × (kept.new ≡ kept.old) }
 {
-    match line_at(text, c.at, row) {
-        Ok((line, at)) => {
+    let mut line = text::no_line();
+    match line_at(text, c.at, row, &mut line) {
+        Ok(at) => {
             if c.lines < kept.len() {
                 kept[c.lines] = line;
             }

@@ -86,7 +86,7 @@ pub fn read_lines(text: &[u8], n: usize, kept: &mut [Line]) -> Result<Cursor, Te
     let due = 3 + 9 * n + 1;
     let mut c = lines::start();
     for _i in 0..due {
-        c = lines::read_line(text, row_at(n, c.lines), c, kept)?;
+        c = lines::read_line(text, &row_at(n, c.lines), c, kept)?;
     }
     Ok(c)
 }

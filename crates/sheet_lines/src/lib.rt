@@ -95,7 +95,7 @@ fn read_more(text: &[u8], n: usize, c: Cursor, kept: &mut [Line]) -> Result<Curs
     let mut d = c;
     for i in 0..n {
         let row = row_at(kept[0].number[0], units_read(kept), d.lines);
-        d = lines::read_line(text, row, d, kept)?;
+        d = lines::read_line(text, &row, d, kept)?;
     }
     Ok(d)
 }

@@ -157,7 +157,12 @@ pub fn key_is(line: &[u8], key: [u8; 10]) -> bool
 fn with_digit(n: u64, d: u8, high: u64) -> Option<u64>
     ensures { result ≡ within high (n * 10 + d) }
 {
-    let more = n.checked_mul(10)?.checked_add(d as u64)?;
+    // below 10^18 the product does not wrap: testing it at each digit was slower
+    let more = if n < 1000000000000000000 {
+        n * 10 + d as u64
+    } else {
+        n.checked_mul(10)?.checked_add(d as u64)?
+    };
     if high < more { None } else { Some(more) }
 }
 
