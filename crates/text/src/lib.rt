@@ -173,11 +173,12 @@ fn digits_at(value: &[u8], from: usize, high: u64) -> Option<Part>
     let mut n = 0;
     for i in from..value.len() {
         let x = value[i];
-        if x == b',' || x == b':' {
-            return Some(Part { number: n, end: i });
-        }
         if x < b'0' || b'9' < x {
-            return None;
+            return if x == b',' || x == b':' {
+                Some(Part { number: n, end: i })
+            } else {
+                None
+            };
         }
         n = with_digit(n, x - b'0', high)?;
     }
