@@ -149,8 +149,16 @@ pub fn word_is(text: &[u8], word: [u8; 10]) -> bool
 pub fn key_is(line: &[u8], key: [u8; 10]) -> bool
     ensures { result ≡ key_is line.now key }
 {
-    let n = find(&key, 0, b'=');
-    n < key.len() && line.starts_with(&key[..n + 1])
+    // byte by byte: a list of calls was read slower where the '=' of each key was looked for first
+    for i in 0..10 {
+        if line.len() <= i || line[i] != key[i] {
+            return false;
+        }
+        if key[i] == b'=' {
+            return true;
+        }
+    }
+    false
 }
 
 // The number n with the digit d behind it, where it is at most high.
