@@ -26,7 +26,8 @@ impl TextRefusal {
     }
 }
 
-// How far a text is read: the place of the line due, and how many lines were read before it.
+// How far a text is read: the place of the line due, and how many lines were read before it. The list of lines is lent, so its length is no
+// count of them.
 #[derive(Clone, Copy, PartialEq, Eq)]
 pub struct Cursor {
     pub at: usize,

@@ -9,7 +9,7 @@ ghost use Rattle.record_lines.specs.Rows.{head_rows, unit_rows, spans_row, end_r
 use lines::{Cursor, Frame, TextRefusal};
 use text::{Line, Row};
 
-// Line k of the head, from 0.
+// Line k of the head, from 0. A table of rows is no plainer: a row of it takes ten lines.
 fn head_row(k: usize) -> Row
     requires { k < 3 }
     ensures { result ≡ get_or head_rows k end_row }
@@ -60,19 +60,6 @@ fn end_row() -> Row
     text::word_row(*b"end=======", *b"hour======")
 }
 
-// The row due after k lines, in a plant of n units.
-fn row_at(n: usize, k: usize) -> Row
-    ensures { result ≡ row_at n k }
-{
-    if k < 3 {
-        head_row(k)
-    } else if (k - 3) / 9 < n {
-        unit_row((k - 3) % 9)
-    } else {
-        end_row()
-    }
-}
-
 // The rows of a record of a plant of n units.
 #[derive(Clone, Copy)]
 struct RecordRows {
@@ -85,7 +72,13 @@ impl Frame for RecordRows {
     ghost room = { 0 };
 
     fn row_at(&self, kept: &[Line], k: usize) -> Row {
-        row_at(self.n, k)
+        if k < 3 {
+            head_row(k)
+        } else if (k - 3) / 9 < self.n {
+            unit_row((k - 3) % 9)
+        } else {
+            end_row()
+        }
     }
 }
 

@@ -10,7 +10,7 @@ ghost use Rattle.sheet_lines.specs.Rows.{head_rows, unit_rows, offer_row, end_ro
 use lines::{Cursor, Frame, TextRefusal};
 use text::{Line, Row};
 
-// Line k of the head, from 0.
+// Line k of the head, from 0. A table of rows is no plainer: a row of it takes ten lines, and the row of the day goes by the month.
 fn head_row(month: u64, k: usize) -> Row
     requires { k < 30 }
     ensures { result ≡ get_or (head_rows month) k end_row }
@@ -60,19 +60,6 @@ fn end_row() -> Row
     text::word_row(*b"end=======", *b"sheet=====")
 }
 
-// The row due after k lines, in a plant of n units.
-fn row_at(month: u64, n: usize, k: usize) -> Row
-    ensures { result ≡ row_at month n k }
-{
-    if k < 30 {
-        head_row(month, k)
-    } else if (k - 30) / 27 < n {
-        unit_row((k - 30) % 27)
-    } else {
-        end_row()
-    }
-}
-
 // The number of units, once the line `units` is read.
 fn units_read(kept: &[Line]) -> usize
     requires { 30 ≤ length kept.now }
@@ -92,7 +79,13 @@ impl Frame for SheetRows {
     ghost room = { 30 };
 
     fn row_at(&self, kept: &[Line], k: usize) -> Row {
-        row_at(kept[0].number[0], units_read(kept), k)
+        if k < 30 {
+            head_row(kept[0].number[0], k)
+        } else if (k - 30) / 27 < units_read(kept) {
+            unit_row((k - 30) % 27)
+        } else {
+            end_row()
+        }
     }
 }
 

@@ -7,7 +7,7 @@ ghost use Rattle.values.specs.Values.{into, added, mark_due, part_next, value_of
 
 use text::{Line, Row, TextFault};
 
-// The number at a place, 0 past the end.
+// The number at a place, 0 past the end: a row may have more parts than bounds, so that its places are tested here.
 fn element(number: &[u64], at: usize) -> u64
     ensures { result ≡ get_or number.now at 0 }
 {
@@ -70,14 +70,14 @@ fn numbers(value: &[u8], row: &Row, line: &mut Line) -> Result<(), TextFault>
 }
 
 // Whether the first numbers of the pairs rise and the second never fall.
-fn rising(number: &[u64], count: usize) -> bool
-    ensures { result ≡ Rattle.values.specs.Values.rising number.now 0 (count / 2) 0 0 }
+fn rising(line: &Line) -> bool
+    ensures { result ≡ Rattle.values.specs.Values.rising line.now.number 0 (line.now.count / 2) 0 0 }
 {
     let mut q = 0;
     let mut p = 0;
-    for s in 0..count / 2 {
-        let x = element(number, 2 * s);
-        let y = element(number, 2 * s + 1);
+    for s in 0..line.count / 2 {
+        let x = element(&line.number, 2 * s);
+        let y = element(&line.number, 2 * s + 1);
         if x <= q || y < p {
             return false;
         }
@@ -107,7 +107,7 @@ pub fn read_value(value: &[u8], row: &Row, line: &mut Line) -> Result<(), TextFa
         };
     }
     numbers(value, row, line)?;
-    if row.order && !rising(&line.number, line.count) {
+    if row.order && !rising(line) {
         return Err(TextFault::OfferOrder);
     }
     Ok(())
