@@ -179,8 +179,9 @@ pub fn ask(text: &[u8], at: usize) -> Result<Asking, TextFault>
     let Some(kind) = kind_of(line) else {
         return Err(TextFault::NotDue);
     };
-    match values::read_value(text::value_of(line), kind.row()) {
-        Ok(read) => Ok(asking_of(text, kind, read.number, e)),
+    let mut read = text::no_line();
+    match values::read_value(text::value_of(line), &kind.row(), &mut read) {
+        Ok(()) => Ok(asking_of(text, kind, read.number, e)),
         Err(_) => Err(TextFault::BadValue),
     }
 }

@@ -46,8 +46,8 @@ fn take_row() -> Row
 }
 
 // The take of a line's numbers.
-fn take_asked(line: Line) -> Asked
-    ensures { result ≡ taken line }
+fn take_asked(line: &Line) -> Asked
+    ensures { result ≡ taken line.now }
 {
     Asked {
         kind: 1,
@@ -90,8 +90,9 @@ pub fn next_at(text: &[u8], at: usize) -> Result<Option<Next>, TextFault>
     }
     let line = &text[at..e];
     if text::key_is(line, *b"take======") {
-        let read = values::read_value(text::value_of(line), take_row())?;
-        return Ok(Some(Next::Take(take_asked(read), e + 1)));
+        let mut read = text::no_line();
+        values::read_value(text::value_of(line), &take_row(), &mut read)?;
+        return Ok(Some(Next::Take(take_asked(&read), e + 1)));
     }
     if text::key_is(line, *b"hour======") {
         return Ok(Some(Next::Settle(settle_at(text, at))));

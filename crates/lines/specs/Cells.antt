@@ -23,6 +23,11 @@ abbrev pub cursors : Result Reading TextRefusal → Result Cursor TextRefusal
 cursors (Ok s) = Ok (cursor_of s)
 cursors (Err r) = Err r
 
+-- a line that was read into one that was lent, with the place behind it; or the fault alone
+abbrev pub lent : Result ℕ TextFault → Line → Result (Line × ℕ) TextFault
+lent (Ok next) l = Ok (l, next)
+lent (Err f) l = Err f
+
 -- a line with the place behind it
 abbrev pub ending : ℕ → Result Line TextFault → Result (Line × ℕ) TextFault
 ending next (Ok l) = Ok (l, next)

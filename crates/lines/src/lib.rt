@@ -1,9 +1,11 @@
 // A text read line by line. The reader's state is a cursor by value; the lines read are kept in a lent list of lines.
 #![tactic(auto)]
 
-ghost use Rattle.std.specs.Prelude.{◌≡◌, ◌≢◌, ℕ, ◌+◌, ◌^◌, ◌≤◌, ◌<◌, cond, IfOk, Ok, Err};
-ghost use Rattle.lines.specs.Lines.{Reading, read_line, line_at, place_after};
-ghost use Rattle.lines.specs.Cells.{line_in, Kept, cursor_of, cursors, ending};
+ghost use Rattle.std.specs.Prelude.{◌≡◌, ◌≢◌, ℕ, List, length, ◌+◌, ◌^◌, ◌≤◌, ◌<◌, cond, IfOk, Ok, Err};
+ghost use Rattle.text.specs.declared.Row.{Row};
+ghost use Rattle.text.specs.declared.Line.{Line};
+ghost use Rattle.lines.specs.Lines.{Reading, read_line, read_by, line_at, place_after};
+ghost use Rattle.lines.specs.Cells.{line_in, Kept, Stopped, cursor_of, cursors, lines_before, lent, ending};
 ghost use Rattle.lines.specs.Refusals.{text_number, bad_start, no_start};
 
 use text::{Line, Row, TextFault};
@@ -24,7 +26,8 @@ impl TextRefusal {
     }
 }
 
-// How far a text is read: the place of the line due, and how many lines were read before it.
+// How far a text is read: the place of the line due, and how many lines were read before it. The list of lines is lent, so its length is no
+// count of them.
 #[derive(Clone, Copy, PartialEq, Eq)]
 pub struct Cursor {
     pub at: usize,
@@ -51,9 +54,9 @@ pub fn start_in(text: &[u8], start: u64) -> Result<usize, TextRefusal>
     Ok(start as usize)
 }
 
-// The line at a place, by its row: it is cut out of the text up to its LF, and its value out of the line. Beside it the place behind it.
-fn line_at(text: &[u8], at: usize, row: Row) -> Result<(Line, usize), TextFault>
-    ensures { result ≡ ending (place_after text.now at) (line_at text.now at row) }
+// The line at a place, by its row, and the place behind it: it is cut out of the text up to its LF, and its value out of the line.
+fn line_at(text: &[u8], at: usize, row: &Row, read: &mut Line) -> Result<usize, TextFault>
+    ensures { lent result read.new ≡ ending (place_after text.now at) (line_at text.now at row.now) }
 {
     let end = text::find(text, at, b'\n');
     if text.len() <= end {
@@ -63,21 +66,27 @@ fn line_at(text: &[u8], at: usize, row: Row) -> Result<(Line, usize), TextFault>
     if !text::key_is(line, row.key) {
         return Err(TextFault::NotDue);
     }
-    let read = values::read_value(text::value_of(line), row)?;
-    Ok((read, end + 1))
+    values::read_value(text::value_of(line), row, read)?;
+    Ok(end + 1)
 }
 
-// The line due, by its row, kept where there is room for it.
-pub fn read_line(text: &[u8], row: Row, c: Cursor, kept: &mut [Line]) -> Result<Cursor, TextRefusal>
+// The line due, by its row, kept where there is room for it. A refused line is not kept, so a line is read beside the list first.
+pub fn read_line(
+    text: &[u8],
+    row: &Row,
+    c: Cursor,
+    kept: &mut [Line],
+) -> Result<Cursor, TextRefusal>
     requires lines_bound { c.lines < 2 ^ 32 }
-    ensures cursor { (s : Reading) → c ≡ cursor_of s → result ≡ cursors (read_line text.now row s) }
-    ensures kept { (s : Reading) (t : Reading) → c ≡ cursor_of s → Kept kept.old s.lines → read_line text.now row s ≡ Ok t → Kept kept.new t.lines }
+    ensures cursor { (s : Reading) → c ≡ cursor_of s → result ≡ cursors (read_line text.now row.now s) }
+    ensures kept { (s : Reading) (t : Reading) → c ≡ cursor_of s → Kept kept.old s.lines → read_line text.now row.now s ≡ Ok t → Kept kept.new t.lines }
     ensures lines_bound_2 { IfOk result (λ d. d.lines ≡ c.lines + 1) }
     ensures elsewhere { (j : ℕ) → j ≢ c.lines → line_in kept.new j ≡ line_in kept.old j }
     ensures refused { (r : TextRefusal) → result ≡ Err r → (r.line ≡ c.lines + 1) × (kept.new ≡ kept.old) }
 {
-    match line_at(text, c.at, row) {
-        Ok((line, at)) => {
+    let mut line = text::no_line();
+    match line_at(text, c.at, row, &mut line) {
+        Ok(at) => {
             if c.lines < kept.len() {
                 kept[c.lines] = line;
             }
@@ -91,4 +100,40 @@ pub fn read_line(text: &[u8], row: Row, c: Cursor, kept: &mut [Line]) -> Result<
             line: c.lines as u64 + 1,
         }),
     }
+}
+
+// The lines of one kind of text: which row is due after those read so far.
+pub trait Frame {
+    ghost due: { Self → List Line → Row };
+
+    // how many lines the list has to keep, so that they tell the row due
+    ghost room: { ℕ };
+
+    // The row due after k lines, by what is kept of them.
+    fn row_at(&self, kept: &[Line], k: usize) -> Row
+        requires { room ≤ length kept.now }
+        ensures { (lines : List Line) → Kept kept.now lines → k ≡ length lines → result ≡ due self.now lines };
+}
+
+// n lines more, each by the row that is due.
+pub fn read_more<F: Frame>(
+    text: &[u8],
+    frame: &F,
+    n: usize,
+    c: Cursor,
+    kept: &mut [Line],
+) -> Result<Cursor, TextRefusal>
+    requires n_bound { (n < 10000) × (c.lines < 10000) × (F.room ≤ length kept.old) }
+    ensures cursor { (s : Reading) → c ≡ cursor_of s → Kept kept.old s.lines → result ≡ cursors (read_by text.now (F.due frame.now) n s) }
+    ensures kept { (s : Reading) (t : Reading) → c ≡ cursor_of s → Kept kept.old s.lines → read_by text.now (F.due frame.now) n s ≡ Ok t → Kept kept.new t.lines }
+    ensures lines_bound { IfOk result (λ d. d.lines ≡ c.lines + n) }
+    ensures refused { (s : Reading) (r : TextRefusal) → c ≡ cursor_of s → Kept kept.old s.lines → result ≡ Err r → Stopped text.now (F.due frame.now) s r kept.new }
+    ensures behind { (c.lines ≤ lines_before result) × ((k : ℕ) → lines_before result ≤ k → line_in kept.new k ≡ line_in kept.old k) }
+{
+    let mut d = c;
+    for i in 0..n {
+        let row = frame.row_at(kept, d.lines);
+        d = read_line(text, &row, d, kept)?;
+    }
+    Ok(d)
 }

@@ -6,10 +6,10 @@ ghost use Rattle.lines.specs.Lines.{Reading, begin};
 ghost use Rattle.lines.specs.Cells.{line_in, Kept, Stopped, cursors, lines_before};
 ghost use Rattle.record_lines.specs.Rows.{head_rows, unit_rows, spans_row, end_row, row_at, due_row, read_lines};
 
-use lines::{Cursor, TextRefusal};
+use lines::{Cursor, Frame, TextRefusal};
 use text::{Line, Row};
 
-// Line k of the head, from 0.
+// Line k of the head, from 0. A table of rows is no plainer: a row of it takes ten lines.
 fn head_row(k: usize) -> Row
     requires { k < 3 }
     ensures { result ≡ get_or head_rows k end_row }
@@ -60,17 +60,25 @@ fn end_row() -> Row
     text::word_row(*b"end=======", *b"hour======")
 }
 
-// The row due after k lines, in a plant of n units.
-fn row_at(n: usize, k: usize) -> Row
-    requires { n ≤ 64 }
-    ensures { result ≡ row_at n k }
-{
-    if k < 3 {
-        head_row(k)
-    } else if k < 3 + 9 * n {
-        unit_row((k - 3) % 9)
-    } else {
-        end_row()
+// The rows of a record of a plant of n units.
+#[derive(Clone, Copy)]
+struct RecordRows {
+    n: usize,
+}
+
+impl Frame for RecordRows {
+    ghost due = { λ rows. due_row rows.n };
+
+    ghost room = { 0 };
+
+    fn row_at(&self, kept: &[Line], k: usize) -> Row {
+        if k < 3 {
+            head_row(k)
+        } else if (k - 3) / 9 < self.n {
+            unit_row((k - 3) % 9)
+        } else {
+            end_row()
+        }
     }
 }
 
@@ -83,10 +91,5 @@ pub fn read_lines(text: &[u8], n: usize, kept: &mut [Line]) -> Result<Cursor, Te
     ensures refused { (r : TextRefusal) → result ≡ Err r → Stopped text.now (due_row n) begin r kept.new }
     ensures behind { (k : ℕ) → lines_before result ≤ k → line_in kept.new k ≡ line_in kept.old k }
 {
-    let due = 3 + 9 * n + 1;
-    let mut c = lines::start();
-    for _i in 0..due {
-        c = lines::read_line(text, row_at(n, c.lines), c, kept)?;
-    }
-    Ok(c)
+    lines::read_more(text, &RecordRows { n }, 3 + 9 * n + 1, lines::start(), kept)
 }

@@ -1,16 +1,16 @@
 // The lines of a day sheet: the row due at each place, and their reading.
 #![tactic(auto)]
 
-ghost use Rattle.std.specs.Prelude.{◌≡◌, ℕ, ◌+◌, ◌≤◌, ◌<◌, length, get_or, IfOk, Ok, Err};
+ghost use Rattle.std.specs.Prelude.{◌≡◌, ℕ, ◌≤◌, ◌<◌, length, get_or, IfOk, Ok, Err};
 ghost use Rattle.std.specs.Int.Count.{ones};
-ghost use Rattle.lines.specs.Lines.{Reading, begin, read_by, number_of};
-ghost use Rattle.lines.specs.Cells.{line_in, Kept, Stopped, cursor_of, cursors, lines_before};
+ghost use Rattle.lines.specs.Lines.{Reading, begin, number_of};
+ghost use Rattle.lines.specs.Cells.{line_in, Kept, Stopped, cursors, lines_before};
 ghost use Rattle.sheet_lines.specs.Rows.{head_rows, unit_rows, offer_row, end_row, row_at, due_row, read_lines};
 
-use lines::{Cursor, TextRefusal};
+use lines::{Cursor, Frame, TextRefusal};
 use text::{Line, Row};
 
-// Line k of the head, from 0.
+// Line k of the head, from 0. A table of rows is no plainer: a row of it takes ten lines, and the row of the day goes by the month.
 fn head_row(month: u64, k: usize) -> Row
     requires { k < 30 }
     ensures { result ≡ get_or (head_rows month) k end_row }
@@ -60,20 +60,6 @@ fn end_row() -> Row
     text::word_row(*b"end=======", *b"sheet=====")
 }
 
-// The row due after k lines, in a plant of n units.
-fn row_at(month: u64, n: usize, k: usize) -> Row
-    requires { n ≤ 64 }
-    ensures { result ≡ row_at month n k }
-{
-    if k < 30 {
-        head_row(month, k)
-    } else if k < 30 + 27 * n {
-        unit_row((k - 30) % 27)
-    } else {
-        end_row()
-    }
-}
-
 // The number of units, once the line `units` is read.
 fn units_read(kept: &[Line]) -> usize
     requires { 30 ≤ length kept.now }
@@ -83,21 +69,24 @@ fn units_read(kept: &[Line]) -> usize
     kept[29].number[0].count_ones() as usize
 }
 
-// n lines more, each by the row that is due.
-fn read_more(text: &[u8], n: usize, c: Cursor, kept: &mut [Line]) -> Result<Cursor, TextRefusal>
-    requires n_bound { (n < 10000) × (c.lines < 10000) × (30 ≤ length kept.old) }
-    ensures cursor { (s : Reading) → c ≡ cursor_of s → Kept kept.old s.lines → result ≡ cursors (read_by text.now due_row n s) }
-    ensures kept { (s : Reading) (t : Reading) → c ≡ cursor_of s → Kept kept.old s.lines → read_by text.now due_row n s ≡ Ok t → Kept kept.new t.lines }
-    ensures lines_bound { IfOk result (λ d. d.lines ≡ c.lines + n) }
-    ensures refused { (s : Reading) (r : TextRefusal) → c ≡ cursor_of s → Kept kept.old s.lines → result ≡ Err r → Stopped text.now due_row s r kept.new }
-    ensures behind { (c.lines ≤ lines_before result) × ((k : ℕ) → lines_before result ≤ k → line_in kept.new k ≡ line_in kept.old k) }
-{
-    let mut d = c;
-    for i in 0..n {
-        let row = row_at(kept[0].number[0], units_read(kept), d.lines);
-        d = lines::read_line(text, row, d, kept)?;
+// The rows of a sheet: the month and the units come from its own lines.
+#[derive(Clone, Copy)]
+struct SheetRows;
+
+impl Frame for SheetRows {
+    ghost due = { λ rows. due_row };
+
+    ghost room = { 30 };
+
+    fn row_at(&self, kept: &[Line], k: usize) -> Row {
+        if k < 30 {
+            head_row(kept[0].number[0], k)
+        } else if (k - 30) / 27 < units_read(kept) {
+            unit_row((k - 30) % 27)
+        } else {
+            end_row()
+        }
     }
-    Ok(d)
 }
 
 // The lines of a sheet that begins where the text does.
@@ -109,6 +98,6 @@ pub fn read_lines(text: &[u8], kept: &mut [Line]) -> Result<Cursor, TextRefusal>
     ensures refused { (r : TextRefusal) → result ≡ Err r → Stopped text.now due_row begin r kept.new }
     ensures behind { (k : ℕ) → lines_before result ≤ k → line_in kept.new k ≡ line_in kept.old k }
 {
-    let head = read_more(text, 30, lines::start(), kept)?;
-    read_more(text, 27 * units_read(kept) + 1, head, kept)
+    let head = lines::read_more(text, &SheetRows, 30, lines::start(), kept)?;
+    lines::read_more(text, &SheetRows, 27 * units_read(kept) + 1, head, kept)
 }

@@ -187,23 +187,27 @@ module _ (x : ℕ) (xs : List ℕ) (y : ℕ) (ys : List ℕ) where
       by true q = absurd (let z : ◌≡◌ {A = ℕ} 0 1 = cc in omega arith)
       by false q = simp (ne_eqb y 61 n, eq-eqb x y e, one_more_lem (seek 61 61 xs) (length xs))
 
--- the line begins with the key and its '='
-pub key_within : (s w : List ℕ) → seek 61 61 w < length w
-    → key_is s w ≡ pointwise eqb (take (suc (seek 61 61 w)) w) (take (length (take (suc (seek 61 61 w)) w)) s)
-unfolding seek
-key_within s [] h = absurd (not-suc-le-zero h)
-key_within [] (y ∷ ys) h = refl
-key_within (x ∷ xs) (y ∷ ys) h = by (key_within xs ys) (eqb y 61) refl (eqb y x) refl h
-  where
-    by : (seek 61 61 ys < length ys → key_is xs ys ≡ pointwise eqb (take (suc (seek 61 61 ys)) ys) (take (length (take (suc (seek 61 61 ys)) ys)) xs)) → (t : Bool) → eqb y 61 ≡ t → (u : Bool) → eqb y x ≡ u → cond t 0 (cond t 0 (suc (seek 61 61 ys))) < suc (length ys)
-        → key_is (x ∷ xs) (y ∷ ys) ≡ (u && pointwise eqb (take (cond t 0 (cond t 0 (suc (seek 61 61 ys)))) ys)
-        (take (length (take (cond t 0 (cond t 0 (suc (seek 61 61 ys)))) ys)) xs))
-    by more t e false f h = differs x xs y ys (λ q. eqb-false _ _ f (sym q))
-    by more true e true f h = ends x xs y ys (sym (eqb-true _ _ f) ∙ eqb-true _ _ e) (eqb-true _ _ e)
-    by more false e true f h = agrees x xs y ys (sym (eqb-true _ _ f)) (eqb-false _ _ e) ∙ more (omega arith)
+module _ (s w : List ℕ) (i : ℕ) where
+  pub key_none : length w ≤ i → key_is (drop i s) (drop i w) ≡ false
+  unfolding word_is
+  key_none h = rw (drop_of_length-le w {i = i} h) (neither (has 61 (drop i s)))
 
-pub key_without : (s w : List ℕ) → length w ≤ seek 61 61 w → key_is s w ≡ false
-key_without s w h = rw (word_without (before 61 s) w h) (neither (has 61 s))
+  pub key_short : length s ≤ i → key_is (drop i s) (drop i w) ≡ false
+  unfolding seek
+  key_short h = rw (drop_of_length-le s {i = i} h)
+
+  module _ (h : i < length w) (k : i < length s) where
+    heads : key_is (drop i s) (drop i w) ≡ key_is (get_or s i 0 ∷ drop (i + 1) s) (get_or w i 0 ∷ drop (i + 1) w)
+    heads = rw (left s i k, left w i h)
+
+    pub key_other : (get_or s i 0 ≡ get_or w i 0 → ⊥) → key_is (drop i s) (drop i w) ≡ false
+    key_other n = heads ∙ differs (get_or s i 0) (drop (i + 1) s) (get_or w i 0) (drop (i + 1) w) n
+
+    pub key_end : get_or s i 0 ≡ get_or w i 0 → get_or w i 0 ≡ 61 → key_is (drop i s) (drop i w) ≡ true
+    key_end e f = heads ∙ ends (get_or s i 0) (drop (i + 1) s) (get_or w i 0) (drop (i + 1) w) (e ∙ f) f
+
+    pub key_on : get_or s i 0 ≡ get_or w i 0 → (get_or w i 0 ≡ 61 → ⊥) → key_is (drop i s) (drop i w) ≡ key_is (drop (i + 1) s) (drop (i + 1) w)
+    key_on e n = heads ∙ agrees (get_or s i 0) (drop (i + 1) s) (get_or w i 0) (drop (i + 1) w) e n
 
 -- where the mark first stands, by a search for it
 module _ {F : Type 0} {g : Mut F (Bor ℕ × Unit {0}) Bool} {f : F} {s u : Iter ℕ} (m : ℕ) (xs : List ℕ) where

@@ -149,15 +149,28 @@ pub fn word_is(text: &[u8], word: [u8; 10]) -> bool
 pub fn key_is(line: &[u8], key: [u8; 10]) -> bool
     ensures { result ≡ key_is line.now key }
 {
-    let n = find(&key, 0, b'=');
-    n < key.len() && line.starts_with(&key[..n + 1])
+    // byte by byte: a list of calls was read slower where the '=' of each key was looked for first
+    for i in 0..10 {
+        if line.len() <= i || line[i] != key[i] {
+            return false;
+        }
+        if key[i] == b'=' {
+            return true;
+        }
+    }
+    false
 }
 
 // The number n with the digit d behind it, where it is at most high.
 fn with_digit(n: u64, d: u8, high: u64) -> Option<u64>
     ensures { result ≡ within high (n * 10 + d) }
 {
-    let more = n.checked_mul(10)?.checked_add(d as u64)?;
+    // below 10^18 the product does not wrap: testing it at each digit was slower
+    let more = if n < 1000000000000000000 {
+        n * 10 + d as u64
+    } else {
+        n.checked_mul(10)?.checked_add(d as u64)?
+    };
     if high < more { None } else { Some(more) }
 }
 
@@ -168,11 +181,12 @@ fn digits_at(value: &[u8], from: usize, high: u64) -> Option<Part>
     let mut n = 0;
     for i in from..value.len() {
         let x = value[i];
-        if x == b',' || x == b':' {
-            return Some(Part { number: n, end: i });
-        }
         if x < b'0' || b'9' < x {
-            return None;
+            return if x == b',' || x == b':' {
+                Some(Part { number: n, end: i })
+            } else {
+                None
+            };
         }
         n = with_digit(n, x - b'0', high)?;
     }

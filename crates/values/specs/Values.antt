@@ -7,6 +7,11 @@ use Rattle.text.specs.declared.Line.{Line}
 use Rattle.text.specs.declared.TextFault.{TextFault}
 use Rattle.text.specs.declared.TextFault.TheVariants.{BadValue, OfferOrder}
 
+-- what was read into a line that was lent: the line, or the fault alone
+abbrev pub into : Result (Unit {0}) TextFault → Line → Result Line TextFault
+into (Ok done) l = Ok l
+into (Err f) l = Err f
+
 -- one number more
 abbrev pub added : Line → ℕ → Line
 added l n = record { count = l.count + 1; number = set l.number l.count n }

@@ -1,13 +1,13 @@
-// The value of a line, read by its row.
+// The value of a line, read by its row into a line that the caller lends: handed over by value, 200 bytes from function to function, it was slower.
 #![tactic(auto)]
 
 ghost use Rattle.std.specs.Prelude.{◌≡◌, ◌/◌, ◌<◌, get_or};
 ghost use Rattle.text.specs.Rows.{no_line};
-ghost use Rattle.values.specs.Values.{added, mark_due, part_next, value_of};
+ghost use Rattle.values.specs.Values.{into, added, mark_due, part_next, value_of};
 
 use text::{Line, Row, TextFault};
 
-// The number at a place, 0 past the end.
+// The number at a place, 0 past the end: a row may have more parts than bounds, so that its places are tested here.
 fn element(number: &[u64], at: usize) -> u64
     ensures { result ≡ get_or number.now at 0 }
 {
@@ -40,22 +40,22 @@ fn add(line: &mut Line, n: u64)
 }
 
 // The numbers of a value: a group's numbers are joined by ':', groups by ','.
-fn numbers(value: &[u8], row: Row) -> Result<Line, TextFault>
-    ensures { result ≡ Rattle.values.specs.Values.numbers row.low row.high row.parts row.most 0 value.now no_line }
+fn numbers(value: &[u8], row: &Row, line: &mut Line) -> Result<(), TextFault>
+    requires { line.old ≡ no_line }
+    ensures { into result line.new ≡ Rattle.values.specs.Values.numbers row.now.low row.now.high row.now.parts row.now.most 0 value.now no_line }
 {
     let parts = row.parts;
-    let mut line = text::no_line();
     let mut from = 0;
     let mut p = 0;
     for k in 0..row.most {
         let part = text::part_at(value, from, element(&row.low, p), element(&row.high, p)).ok_or(
             TextFault::BadValue,
         )?;
-        add(&mut line, part.number);
+        add(line, part.number);
         let whole = p + 1 == parts;
         if value.len() <= part.end {
             return if whole {
-                Ok(line)
+                Ok(())
             } else {
                 Err(TextFault::BadValue)
             };
@@ -70,14 +70,14 @@ fn numbers(value: &[u8], row: Row) -> Result<Line, TextFault>
 }
 
 // Whether the first numbers of the pairs rise and the second never fall.
-fn rising(number: &[u64], count: usize) -> bool
-    ensures { result ≡ Rattle.values.specs.Values.rising number.now 0 (count / 2) 0 0 }
+fn rising(line: &Line) -> bool
+    ensures { result ≡ Rattle.values.specs.Values.rising line.now.number 0 (line.now.count / 2) 0 0 }
 {
     let mut q = 0;
     let mut p = 0;
-    for s in 0..count / 2 {
-        let x = element(number, 2 * s);
-        let y = element(number, 2 * s + 1);
+    for s in 0..line.count / 2 {
+        let x = element(&line.number, 2 * s);
+        let y = element(&line.number, 2 * s + 1);
         if x <= q || y < p {
             return false;
         }
@@ -87,27 +87,28 @@ fn rising(number: &[u64], count: usize) -> bool
     true
 }
 
-// A value by its row: a word, blank, or numbers in their order.
-pub fn read_value(value: &[u8], row: Row) -> Result<Line, TextFault>
-    ensures { result ≡ value_of row value.now }
+// A value by its row: a word, blank, or numbers in their order. After a fault the line holds nothing that counts.
+pub fn read_value(value: &[u8], row: &Row, line: &mut Line) -> Result<(), TextFault>
+    ensures { into result line.new ≡ value_of row.now value.now }
 {
+    *line = text::no_line();
     if row.parts == 0 {
         return if text::word_is(value, row.word) {
-            Ok(text::no_line())
+            Ok(())
         } else {
             Err(TextFault::BadValue)
         };
     }
     if value.is_empty() {
         return if row.blank {
-            Ok(text::no_line())
+            Ok(())
         } else {
             Err(TextFault::BadValue)
         };
     }
-    let line = numbers(value, row)?;
-    if row.order && !rising(&line.number, line.count) {
+    numbers(value, row, line)?;
+    if row.order && !rising(line) {
         return Err(TextFault::OfferOrder);
     }
-    Ok(line)
+    Ok(())
 }

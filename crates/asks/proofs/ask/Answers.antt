@@ -5,7 +5,7 @@ use mathlib.Core.Path.{◌≡◌, ap, ◌∙◌}
 use native.Mathlib.Omega.{arith}
 use lib.ListN.{length, take, drop}
 use Rattle.text.specs.declared.Row.{Row}
-use Rattle.values.specs.Values.{value_of}
+use Rattle.values.specs.Values.{into, value_of}
 use Rattle.asks.specs.Asks.{row_of, line_asking, asking_by, asking_at}
 use Rattle.asks.proofs.Parts.{no_line_end, by_line}
 use Rattle.asks.proofs.ask.Goals.{After-kind_of, After-read_value}
@@ -29,7 +29,7 @@ returns-in_default-clause-value c = rw c.in_default.is at (by_kind (goal.at.retu
 -- what is asked by the value that is read
 by_value : (c : After-read_value)
     → line_asking c.args.text.now (take (c.find-e.result - c.args.at) (drop c.args.at c.args.text.now)) c.find-e.result c.kind_of.result ≡ asking_at c.args.text.now c.args.at
-    → asking_by c.args.text.now c.in-Some.kind c.find-e.result c.read_value.result ≡ asking_at c.args.text.now c.args.at
+    → asking_by c.args.text.now c.in-Some.kind c.find-e.result (into c.read_value.result c.read_value.new.line) ≡ asking_at c.args.text.now c.args.at
 by_value c whole =
     let k = c.in-Some.kind in
     let value = c.read_value.ensures ∙ (ap (λ (r : Row). value_of r c.value_of.result.now) c.row.ensures ∙ ap (value_of (row_of k)) c.value_of.ensures) in

@@ -19,30 +19,30 @@ use Rattle.lines.proofs.read_line.Goals as goal
 
 -- the line at the reading's place
 read : (c : In-Ok) (s : Reading) → c.args.c ≡ cursor_of s
-    → (line_at c.args.text.now s.at c.args.row ≡ Ok c.in-Ok.line) × (c.in-Ok.at ≡ place_after c.args.text.now s.at) × (c.args.c.lines ≡ length s.lines)
+    → (line_at c.args.text.now s.at c.args.row.now ≡ Ok c.line_at.new.read) × (c.in-Ok.at ≡ place_after c.args.text.now s.at) × (c.args.c.lines ≡ length s.lines)
 read c s e =
     let g = c.args in
     let at : g.c.at ≡ s.at = ap (λ (x : Cursor). x.at) e in
-    let r = ending_ok (place_after g.text.now g.c.at) (line_at g.text.now g.c.at g.row) c.in-Ok.line c.in-Ok.at (sym c.in-Ok.is ∙ c.line_at.ensures) in
+    let r = ending_ok (place_after g.text.now g.c.at) (line_at g.text.now g.c.at g.row.now) c.line_at.new.read c.in-Ok.at (rw c.in-Ok.is at c.line_at.ensures) in
     (rw at at r.0, rw at at r.1, ap (λ (x : Cursor). x.lines) e)
 
-refused : (c : In-Err) (s : Reading) → c.args.c ≡ cursor_of s → line_at c.args.text.now s.at c.args.row ≡ Err c.in-Err.fault
+refused : (c : In-Err) (s : Reading) → c.args.c ≡ cursor_of s → line_at c.args.text.now s.at c.args.row.now ≡ Err c.in-Err.fault
 refused c s e =
     let g = c.args in
     let at : g.c.at ≡ s.at = ap (λ (x : Cursor). x.at) e in
-    rw at at (ending_err (place_after g.text.now g.c.at) (line_at g.text.now g.c.at g.row) c.in-Err.fault (sym c.in-Err.is ∙ c.line_at.ensures))
+    rw at at (ending_err (place_after g.text.now g.c.at) (line_at g.text.now g.c.at g.row.now) c.in-Err.fault (rw c.in-Err.is at c.line_at.ensures))
 
 pub returns-after-c-kept-clause-cursor : goal.returns-after-c-kept-clause-cursor
 returns-after-c-kept-clause-cursor c =
     λ s e. let r = read (goal.at.returns-after-c-kept-clause-cursor c).In-Ok s e in
-    cursor_next c.args.text.now c.args.row s c.in-Ok.line c.in-Ok.at (c.args.c.lines + 1) r.0 r.1 (ap (λ (n : ℕ). n + 1) r.2)
+    cursor_next c.args.text.now c.args.row.now s c.line_at.new.read c.in-Ok.at (c.args.c.lines + 1) r.0 r.1 (ap (λ (n : ℕ). n + 1) r.2)
 
 pub returns-after-c-kept-clause-kept : goal.returns-after-c-kept-clause-kept
 returns-after-c-kept-clause-kept c =
     λ s t e kept h.
     let r = read (goal.at.returns-after-c-kept-clause-kept c).In-Ok s e in
-    let l = c.in-Ok.line in
-    let is : t.lines ≡ s.lines ++ (l ∷ []) = ap (λ (x : Reading). x.lines) (same_ok _ _ (sym h ∙ read_ok c.args.text.now c.args.row s l r.0)) in
+    let l = c.line_at.new.read in
+    let is : t.lines ≡ s.lines ++ (l ∷ []) = ap (λ (x : Reading). x.lines) (same_ok _ _ (sym h ∙ read_ok c.args.text.now c.args.row.now s l r.0)) in
     let n : length s.lines ≡ c.args.c.lines = sym r.2 in
     let all : Kept c.if-c-kept.kept (s.lines ++ (l ∷ [])) =
     elim c.if-c-kept.branch [
@@ -53,17 +53,17 @@ returns-after-c-kept-clause-kept c =
 
 pub returns-in-Err-clause-cursor : goal.returns-in-Err-clause-cursor
 returns-in-Err-clause-cursor c =
-    λ s e. cursor_refused c.args.text.now c.args.row s c.in-Err.fault (c.args.c.lines + 1) (refused (goal.at.returns-in-Err-clause-cursor c).In-Err s e)
+    λ s e. cursor_refused c.args.text.now c.args.row.now s c.in-Err.fault (c.args.c.lines + 1) (refused (goal.at.returns-in-Err-clause-cursor c).In-Err s e)
     (ap (λ (x : Cursor). x.lines + 1) e)
 
 pub returns-in-Err-clause-kept : goal.returns-in-Err-clause-kept
 returns-in-Err-clause-kept c =
-    λ s t e kept h. absurd (none_next c.args.text.now c.args.row s c.in-Err.fault t (refused (goal.at.returns-in-Err-clause-kept c).In-Err s e) h)
+    λ s t e kept h. absurd (none_next c.args.text.now c.args.row.now s c.in-Err.fault t (refused (goal.at.returns-in-Err-clause-kept c).In-Err s e) h)
 
 -- one line at the most is stored, and at the place due
 pub returns-after-c-kept-clause-elsewhere : goal.returns-after-c-kept-clause-elsewhere
 returns-after-c-kept-clause-elsewhere c =
     λ j other. elim c.if-c-kept.branch [
-      | then-c-kept w ↦ rw (w.kept-is) (get_or-set_other c.args.kept.now c.args.c.lines j c.in-Ok.line (record { count = 0; number = [] }) other)
+      | then-c-kept w ↦ rw (w.kept-is) (get_or-set_other c.args.kept.now c.args.c.lines j c.line_at.new.read (record { count = 0; number = [] }) other)
       | else-c-kept w ↦ rw (w.kept-is) refl
     ]

@@ -1,21 +1,28 @@
--- The bytes up to the key's '=' are compared.
+-- Byte by byte, up to the first place where line and key differ or both have `=`.
 -- Assumes nothing.
 use native.Mathlib.Omega.{arith}
-use mathlib.Core.Path.{◌≡◌, ap, sym, ◌∙◌}
-use borrow.Author.Tests.{le-ltb}
-use lib.Dec.{eqb}
-use lib.ListN.{length, take}
-use lib.Pointwise.{pointwise}
-use Prim.Native.Nat.{ℕ, suc, ◌+◌}
-use Rattle.text.specs.Text.{seek}
-use Rattle.text.proofs.Walk.{key_within, key_without}
+use mathlib.Core.Path.{sym, ◌∙◌}
+use Rattle.text.proofs.Walk.{key_none, key_short, key_other, key_end, key_on}
+use Rattle.text.proofs.key_is.Goals.{then-line-i-via-then-line-i, then-line-i-via-else-line-i+then-line-i-2}
 use Rattle.text.proofs.key_is.Goals as goal
 
-pub returns-then-n-lt10 : goal.returns-then-n-lt10
-returns-then-n-lt10 c =
-    let n : c.find-n.result + 1 ≡ suc (seek 61 61 c.args.key) = omega (arith, c.find-n.ensures) in
-    (c.starts_with.ensures.value ∙ ap (λ (k : ℕ). pointwise eqb (take k c.args.key) (take (length (take k c.args.key)) c.args.line.now)) n)
-    ∙ sym (key_within c.args.line.now c.args.key (omega (arith, c.well_formed)))
+pub returns-then-line-i : goal.returns-then-line-i
+returns-then-line-i c =
+    let s = c.args.line.now in
+    let w = c.args.key in
+    let i = c.loop-i.i in
+    elim c.then-line-i.branch [
+      | then-line-i-via-then-line-i x ↦ sym (key_short s w i x.if-line-i.true) ∙ c.loop-i.invariant
+      | then-line-i-via-else-line-i+then-line-i-2 x ↦ sym (key_other s w i (omega (arith, c.well_formed)) (omega arith) x.if-line-i-2.true) ∙ c.loop-i.invariant
+    ]
 
-pub returns-else-n-lt10 : goal.returns-else-n-lt10
-returns-else-n-lt10 c = le-ltb _ _ c.if-n-lt10.false ∙ sym (key_without c.args.line.now c.args.key (omega (arith, c.well_formed)))
+pub returns-then-key-i-eq61 : goal.returns-then-key-i-eq61
+returns-then-key-i-eq61 c =
+    sym (key_end c.args.line.now c.args.key c.loop-i.i (omega (arith, c.well_formed)) (omega arith) c.if-line-i-2.false c.if-key-i-eq61.true) ∙ c.loop-i.invariant
+
+pub loop-i-preserved : goal.loop-i-preserved
+loop-i-preserved c =
+    sym (key_on c.args.line.now c.args.key c.loop-i.i (omega (arith, c.well_formed)) (omega arith) c.if-line-i-2.false c.if-key-i-eq61.false) ∙ c.loop-i.invariant
+
+pub returns : goal.returns
+returns c = sym (key_none c.args.line.now c.args.key c.loop-i.i (omega (arith, c.well_formed))) ∙ c.loop-i.invariant

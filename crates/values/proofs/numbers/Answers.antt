@@ -21,17 +21,17 @@ use Rattle.values.proofs.numbers.Goals as goal
 so_far : (c : In-loop-k) →
     let g = c.args in
     let l = c.loop-k in
-    numbers g.row.low g.row.high g.row.parts (suc (g.row.most - l.k - 1)) l.p (drop l.from g.value.now) l.line
-    ≡ numbers g.row.low g.row.high g.row.parts g.row.most 0 g.value.now no_line
+    numbers g.row.now.low g.row.now.high g.row.now.parts (suc (g.row.now.most - l.k - 1)) l.p (drop l.from g.value.now) l.line
+    ≡ numbers g.row.now.low g.row.now.high g.row.now.parts g.row.now.most 0 g.value.now no_line
 so_far c =
-    let r = c.args.row in
+    let r = c.args.row.now in
     let l = c.loop-k in
     let e : suc (r.most - l.k - 1) ≡ r.most - l.k = omega (arith, c.loop-k-test.true) in
     ap (λ (k : ℕ). numbers r.low r.high r.parts k l.p (drop l.from c.args.value.now) l.line) e ∙ l.invariant.3
 
 -- the part that stands next
 here : (c : After-part_at) →
-    let r = c.args.row in
+    let r = c.args.row.now in
     let l = c.loop-k in
     let v = c.args.value.now in
     c.part_at.result ≡ part_with (l.from + seek 58 44 (drop l.from v)) (number_in (get_or r.low l.p 0) (get_or r.high l.p 0) (part_bytes v l.from))
@@ -42,7 +42,7 @@ here c =
 
 -- its number and its end
 read : (c : In_ok-part) →
-    let r = c.args.row in
+    let r = c.args.row.now in
     let l = c.loop-k in
     let v = c.args.value.now in
     (number_in (get_or r.low l.p 0) (get_or r.high l.p 0) (part_bytes v l.from) ≡ Some c.in_ok-part.part.number)
@@ -61,7 +61,7 @@ returns-in_err-part c =
     let p = err_from_is_err_and c.from_residual.result c.from_residual.ensures.1 in
     let none : c.part_at.result ≡ None = grind (arith, c.ok_or.ensures.value, c.in_err-part.was) in
     let fault : c.in_err-part.field-0.0 ≡ BadValue = grind (arith, c.ok_or.ensures.value, c.in_err-part.was, none) in
-    let refused = bad g.row.low g.row.high g.row.parts (g.row.most - l.k - 1) l.p (drop l.from g.value.now) l.line
+    let refused = bad g.row.now.low g.row.now.high g.row.now.parts (g.row.now.most - l.k - 1) l.p (drop l.from g.value.now) l.line
     (part_none _ _ (sym none ∙ here (goal.at.returns-in_err-part c).After-part_at)) in
     rw (p.1, p.2, fault) (sym refused ∙ so_far (goal.at.returns-in_err-part c).In-loop-k)
 
@@ -71,7 +71,7 @@ returns-then-whole c =
     let l = c.loop-k in
     let r = read (goal.at.returns-then-whole c).In_ok-part in
     ap {B = Result Line TextFault} (λ (x : Line). Ok x) c.add.ensures
-    ∙ (sym (whole g.row.low g.row.high g.row.parts (g.row.most - l.k - 1) l.p (drop l.from g.value.now) l.line _ r.0
+    ∙ (sym (whole g.row.now.low g.row.now.high g.row.now.parts (g.row.now.most - l.k - 1) l.p (drop l.from g.value.now) l.line _ r.0
     (ended g.value.now l.from _ r.1 c.if-value-part.true) c.if-whole.true)
     ∙ so_far (goal.at.returns-then-whole c).In-loop-k)
 
@@ -80,7 +80,7 @@ returns-else-whole c =
     let g = c.args in
     let l = c.loop-k in
     let r = read (goal.at.returns-else-whole c).In_ok-part in
-    sym (part g.row.low g.row.high g.row.parts (g.row.most - l.k - 1) l.p (drop l.from g.value.now) l.line _ r.0
+    sym (part g.row.now.low g.row.now.high g.row.now.parts (g.row.now.most - l.k - 1) l.p (drop l.from g.value.now) l.line _ r.0
     (ended g.value.now l.from _ r.1 c.if-value-part.true) c.if-whole.false)
     ∙ so_far (goal.at.returns-else-whole c).In-loop-k
 
@@ -90,13 +90,13 @@ returns-then-value-part-2 c =
     let l = c.loop-k in
     let r = read (goal.at.returns-then-value-part-2 c).In_ok-part in
     let m = at_mark g.value.now l.from _ r.1 in
-    sym (other g.row.low g.row.high g.row.parts (g.row.most - l.k - 1) l.p (drop l.from g.value.now) l.line _ r.0
+    sym (other g.row.now.low g.row.now.high g.row.now.parts (g.row.now.most - l.k - 1) l.p (drop l.from g.value.now) l.line _ r.0
     (goes_on g.value.now l.from _ r.1 c.if-value-part.false) (λ h. c.if-value-part-2.true (sym m ∙ h ∙ sym c.mark_due.ensures)))
     ∙ so_far (goal.at.returns-then-value-part-2 c).In-loop-k
 
 pub loop-k-preserved : goal.loop-k-preserved
 loop-k-preserved c =
-    let r = c.args.row in
+    let r = c.args.row.now in
     let v = c.args.value.now in
     let l = c.loop-k in
     let q = read (goal.at.loop-k-preserved c).In_ok-part in
@@ -114,7 +114,7 @@ loop-k-preserved c =
 pub returns : goal.returns
 unfolding numbers
 returns c =
-    let r = c.args.row in
+    let r = c.args.row.now in
     let l = c.loop-k in
     let e : r.most - l.k ≡ 0 = omega (arith, c.loop-k-test.false) in
     sym (ap (λ (k : ℕ). numbers r.low r.high r.parts k l.p (drop l.from c.args.value.now) l.line) e) ∙ l.invariant.3

@@ -4,12 +4,11 @@ use lib.ListN.{length}
 use Rattle.lines.specs.Lines.{Reading}
 use Rattle.lines.specs.Cells.{line_in, Kept, cursor_of}
 use Rattle.lines.proofs.Shown.{Shown}
-use Rattle.sheet_lines.specs.Rows.{due_row}
-use Rattle.sheet_lines.proofs.read_more.Given as goal
+use Rattle.lines.proofs.read_more.Given as goal
 
 abbrev pub invariant-loop-i : goal.invariant-loop-i
-invariant-loop-i l =
+invariant-loop-i g l =
     (l.d.lines ≡ l.initial.d.lines + l.i)
     × (length l.kept ≡ length l.initial.kept)
-    × ((s : Reading) → l.initial.d ≡ cursor_of s → Kept l.initial.kept s.lines → Shown l.text due_row l.i s l.d l.kept)
+    × ((s : Reading) → l.initial.d ≡ cursor_of s → Kept l.initial.kept s.lines → Shown l.text (g.F.Frame.due l.frame) l.i s l.d l.kept)
     × ((k : ℕ) → l.d.lines ≤ k → line_in l.kept k ≡ line_in l.initial.kept k)
