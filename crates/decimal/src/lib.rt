@@ -63,7 +63,8 @@ impl Writer<'_> {
     #[tactic(auto, unfolding(crate::specs::Output::written))]
     fn put_two(&mut self, n: u64)
         requires { n < 100 }
-        ensures { Wrote self.old self.new (two_digits n) }
+        ensures result_after { Wrote self.old self.new (two_digits n) }
+        ensures upper_bound { self.new.place ≤ self.old.place + 2 }
     {
         self.put_byte(b'0' + (n / 10) as u8);
         self.put_byte(b'0' + (n % 10) as u8);

@@ -19,10 +19,13 @@ field n = 32 ∷ digits n
 abbrev pub amount_field : ℤ → List ℕ
 amount_field z = 32 ∷ signed z
 
--- "`refused=NUMBER`, and for 1 to 4 `refused=NUMBER line=LINE`, LINE counted in the record"
+-- "for 1 to 4 `line=LINE`, LINE counted in the record"
+unfoldable pub place_text : Refusal → List ℕ
+place_text r = cond (ltb 4 (refusal_number r)) [] (bytes " line=" ++ digits (refusal_line r))
+
+-- "`refused=NUMBER`, and for 1 to 4 `refused=NUMBER line=LINE`"
 unfoldable pub refusal_text : Refusal → List ℕ
-refusal_text r =
-    (bytes "refused=" ++ digits (refusal_number r)) ++ cond (ltb 4 (refusal_number r)) [] (bytes " line=" ++ digits (refusal_line r))
+refusal_text r = bytes "refused=" ++ (digits (refusal_number r) ++ place_text r)
 
 -- "The sheet refused: `sheet refused=NUMBER line=LINE` and nothing else."
 unfoldable pub sheet_refused : TextRefusal → List ℕ

@@ -3,7 +3,7 @@
 
 ghost use Rattle.std.specs.Prelude.{◌≡◌, ℕ, ◌/◌, ◌%◌, List};
 ghost use Rattle.decimal.specs.Writer.{Wrote};
-ghost use Rattle.entries.specs.Entries.{refusal_text, sheet_refused, effect_text, sum_text, outcome_text, line_text, entry_line, stop_line};
+ghost use Rattle.entries.specs.Entries.{place_text, refusal_text, sheet_refused, effect_text, sum_text, outcome_text, line_text, entry_line, stop_line};
 ghost use Rattle.entries.specs.Tables.{held_line, commitment_lines, tables, total_line};
 
 use decimal::Writer;
@@ -47,18 +47,25 @@ impl Accepted for i64 {
     }
 }
 
-// `refused=NUMBER`, for 1 to 4 with the line.
-#[tactic(auto, using(decimal::proofs::Laws::written_append, decimal::proofs::Laws::written_end), unfolding(crate::specs::Entries::refusal_text))]
-fn put_refusal(out: &mut Writer, refusal: Refusal)
-    ensures { Wrote out.old out.new (refusal_text refusal) }
+// For 1 to 4 ` line=LINE`.
+#[tactic(auto, using(decimal::proofs::Laws::written_append, decimal::proofs::Laws::written_none), unfolding(crate::specs::Entries::place_text))]
+fn put_place(out: &mut Writer, refusal: Refusal)
+    ensures { Wrote out.old out.new (place_text refusal) }
 {
-    let number = refusal.number();
-    out.put_bytes(b"refused=");
-    out.put_number(number);
-    if number <= 4 {
+    if refusal.number() <= 4 {
         out.put_bytes(b" line=");
         out.put_number(refusal.line());
     }
+}
+
+// `refused=NUMBER`, for 1 to 4 with the line.
+#[tactic(auto, using(decimal::proofs::Laws::written_append), unfolding(crate::specs::Entries::refusal_text))]
+fn put_refusal(out: &mut Writer, refusal: Refusal)
+    ensures { Wrote out.old out.new (refusal_text refusal) }
+{
+    out.put_bytes(b"refused=");
+    out.put_number(refusal.number());
+    put_place(out, refusal);
 }
 
 // The line of a sheet that is refused.
