@@ -145,14 +145,14 @@ fn day_of(sheet: Sheet, text: &[u8], at: usize) -> Day
 }
 
 // What is printed of a day.
-#[tactic(auto, unfolding(crate::specs::Statement::day_lines))]
+#[tactic(auto, using(listing::proofs::Entries::none_in_front), unfolding(crate::specs::Statement::day_lines))]
 fn put_day(out: &mut Writer, units: u64, day: &Day)
     ensures result_after { Wrote out.old out.new (day_lines units day.now) }
     ensures upper_bound { out.new.place ≤ out.old.place + most_bytes }
 {
     match day.due {
         Ok(_) => {
-            listing::put_settled(out, units, &day.book);
+            listing::put_settled(out, b"", units, &day.book);
         }
         Err(refusal) => {
             listing::put_refusal(out, refusal.number());

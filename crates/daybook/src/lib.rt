@@ -39,7 +39,7 @@ fn carry_out(
     match asking.asked {
         Asks::Call(asked) => {
             let o = journal::call(list, stand.count, sheet, stand.book, text, asked);
-            entries::put_call(out, text, stand.at, o.answer);
+            entries::put_entry(out, text, stand.at, o.answer);
             Stand {
                 count: o.count,
                 book: o.book,
@@ -48,7 +48,7 @@ fn carry_out(
         }
         Asks::Total { unit, item } => {
             let t = journal::total(list, stand.count, sheet, stand.book, unit, item);
-            entries::put_total(out, text, stand.at, t);
+            entries::put_entry(out, text, stand.at, t);
             Stand {
                 at: asking.next,
                 ..stand

@@ -1,7 +1,7 @@
 // Numbers and bytes written into a lent buffer, one behind the other; bytes for which the buffer has no room are left out.
 #![tactic(auto, using(crate::proofs::Laws::written_append))]
 
-ghost use Rattle.std.specs.Prelude.{◌≡◌, ◌+◌, ◌<◌, ◌≤◌, [], ◌∷◌, length};
+ghost use Rattle.std.specs.Prelude.{◌≡◌, ℕ, ◌+◌, ◌<◌, ◌≤◌, List, [], ◌∷◌, length};
 ghost use Rattle.decimal.specs.Writer.{Wrote};
 ghost use Rattle.decimal.specs.Decimal.{two_digits, digits, signed, most_number};
 
@@ -12,12 +12,29 @@ pub struct Writer<'a> {
     pub place: usize,
 }
 
-// The digit of a number below 10.
-fn digit(n: u64) -> u8
-    requires { n < 10 }
-    ensures { result ≡ 48 + n }
-{
-    b'0' + n as u8
+// A number that is written in decimal digits, with its sign if it has one.
+pub trait Decimal {
+    ghost text: { Self → List ℕ };
+
+    fn put(self, out: &mut Writer)
+        ensures result_after { Wrote out.old out.new (text self) }
+        ensures upper_bound { out.new.place ≤ out.old.place + most_number };
+}
+
+impl Decimal for u64 {
+    ghost text = { digits };
+
+    fn put(self, out: &mut Writer) {
+        out.put_number(self);
+    }
+}
+
+impl Decimal for i64 {
+    ghost text = { signed };
+
+    fn put(self, out: &mut Writer) {
+        out.put_signed(self);
+    }
 }
 
 impl Writer<'_> {
@@ -46,10 +63,11 @@ impl Writer<'_> {
     #[tactic(auto, unfolding(crate::specs::Output::written))]
     fn put_two(&mut self, n: u64)
         requires { n < 100 }
-        ensures { Wrote self.old self.new (two_digits n) }
+        ensures result_after { Wrote self.old self.new (two_digits n) }
+        ensures upper_bound { self.new.place ≤ self.old.place + 2 }
     {
-        self.put_byte(digit(n / 10));
-        self.put_byte(digit(n % 10));
+        self.put_byte(b'0' + (n / 10) as u8);
+        self.put_byte(b'0' + (n % 10) as u8);
     }
 
     // A number: the digits of its hundreds, then its last two.
@@ -59,7 +77,7 @@ impl Writer<'_> {
         ensures upper_bound { self.new.place ≤ self.old.place + most_number }
     {
         if n < 10 {
-            self.put_byte(digit(n));
+            self.put_byte(b'0' + n as u8);
         } else if n < 100 {
             self.put_two(n);
         } else {
@@ -78,5 +96,14 @@ impl Writer<'_> {
             self.put_byte(b'-');
         }
         self.put_number(z.unsigned_abs());
+    }
+
+    // A number behind a space.
+    pub fn put_field<N: Decimal>(&mut self, n: N)
+        ensures result_after { Wrote self.old self.new (32 ∷ N.text n) }
+        ensures upper_bound { self.new.place ≤ self.old.place + (most_number + 1) }
+    {
+        self.put_byte(b' ');
+        n.put(self);
     }
 }

@@ -1,5 +1,5 @@
 -- What `replay` prints of a call, as bytes: 10 is LF, 32 a space. "Each line ends in LF; a zero has no sign."
-use Rattle.std.specs.Prelude.{ℕ, cond, List, [], ◌∷◌, ◌++◌, ltb, ℤ, drop, Ok, Err}
+use Rattle.std.specs.Prelude.{ℕ, cond, List, [], ◌∷◌, ◌++◌, ltb, ℤ, drop, Result, Ok, Err}
 use Rattle.decimal.specs.Decimal.{digits, signed}
 use Rattle.text.specs.Text.{before}
 use Rattle.text.specs.Bytes.{bytes}
@@ -8,35 +8,49 @@ use Rattle.lines.specs.Refusals.{text_number}
 use Rattle.ledger.specs.declared.Refusal.{Refusal}
 use Rattle.ledger.specs.declared.Refusal.TheVariants.{Text}
 use Rattle.ledger.specs.Answers.{Answer, TotalAnswer}
+use Rattle.ledger.specs.declared.Effect.{Effect}
 use Rattle.ledger.specs.declared.Effect.TheVariants.{Committed, Posted}
 use Rattle.ledger.specs.Numbers.{refusal_number, refusal_line}
 
 -- a number, or an amount in Rial, behind a space
-unfoldable pub field : ℕ → List ℕ
-field n = (32 ∷ []) ++ digits n
+abbrev pub field : ℕ → List ℕ
+field n = 32 ∷ digits n
 
-unfoldable pub amount_field : ℤ → List ℕ
-amount_field z = (32 ∷ []) ++ signed z
+abbrev pub amount_field : ℤ → List ℕ
+amount_field z = 32 ∷ signed z
 
--- "`refused=NUMBER`, and for 1 to 4 `refused=NUMBER line=LINE`, LINE counted in the record"
+-- "for 1 to 4 `line=LINE`, LINE counted in the record"
+unfoldable pub place_text : Refusal → List ℕ
+place_text r = cond (ltb 4 (refusal_number r)) [] (bytes " line=" ++ digits (refusal_line r))
+
+-- "`refused=NUMBER`, and for 1 to 4 `refused=NUMBER line=LINE`"
 unfoldable pub refusal_text : Refusal → List ℕ
-refusal_text r =
-    (bytes "refused=" ++ digits (refusal_number r)) ++ cond (ltb 4 (refusal_number r)) [] (bytes " line=" ++ digits (refusal_line r))
+refusal_text r = bytes "refused=" ++ (digits (refusal_number r) ++ place_text r)
 
 -- "The sheet refused: `sheet refused=NUMBER line=LINE` and nothing else."
 unfoldable pub sheet_refused : TextRefusal → List ℕ
 sheet_refused t = bytes "sheet " ++ (refusal_text (Text t) ++ (10 ∷ []))
 
--- "`accepted` (take, release, move), `accepted=POSTINGS` (settle, restate, void) (..) `refused=NUMBER`"
-unfoldable pub answer_text : Answer → List ℕ
-answer_text (Ok Committed) = bytes "accepted"
-answer_text (Ok (Posted n)) = bytes "accepted=" ++ digits n
-answer_text (Err r) = refusal_text r
+-- "`accepted` (take, release, move), `accepted=POSTINGS` (settle, restate, void)"
+unfoldable pub effect_text : Effect → List ℕ
+effect_text Committed = bytes "accepted"
+effect_text (Posted n) = bytes "accepted=" ++ digits n
 
 -- "`sum=RIAL` (total)"
-unfoldable pub total_text : TotalAnswer → List ℕ
-total_text (Ok sum) = bytes "sum=" ++ signed sum
-total_text (Err r) = refusal_text r
+unfoldable pub sum_text : ℤ → List ℕ
+sum_text sum = bytes "sum=" ++ signed sum
+
+-- of a line that is refused, why
+unfoldable pub outcome_text : {T : Type 0} → (T → List ℕ) → Result T Refusal → List ℕ
+outcome_text text (Ok accepted) = text accepted
+outcome_text text (Err r) = refusal_text r
+
+-- what a call and a total print
+abbrev pub answer_text : Answer → List ℕ
+answer_text a = outcome_text effect_text a
+
+abbrev pub total_text : TotalAnswer → List ℕ
+total_text t = outcome_text sum_text t
 
 -- the line at a place of the text, without its LF
 unfoldable pub line_text : List ℕ → ℕ → List ℕ
@@ -44,7 +58,7 @@ line_text text from = before 10 (drop from text)
 
 -- "Each call prints its line as it stands, a space and its result"
 unfoldable pub entry_line : List ℕ → (from : ℕ) → (result : List ℕ) → List ℕ
-entry_line text from result = line_text text from ++ ((32 ∷ []) ++ (result ++ (10 ∷ [])))
+entry_line text from result = line_text text from ++ (32 ∷ result ++ (10 ∷ []))
 
 -- "A line that is no call ends the run: `line=N refused=NUMBER`"
 unfoldable pub stop_line : TextRefusal → List ℕ

@@ -1,6 +1,7 @@
 -- The tables that `replay` prints at the end of the text. Hours and places are counted from 0 here: place k is that of unit k + 1.
 use Rattle.std.specs.Prelude.{ℕ, ◌+◌, cond, List, [], ◌∷◌, ◌++◌, eqb, Ok, Err}
 use Rattle.text.specs.Bytes.{bytes}
+use Rattle.energy.specs.declared.HubKwh.{HubKwh}
 use Rattle.units.specs.Units.{member_at}
 use Rattle.state.specs.declared.Book.{Book}
 use Rattle.state.specs.Sizes.{hours, places}
@@ -10,10 +11,12 @@ use Rattle.ledger.specs.Answers.{TotalAnswer}
 use Rattle.entries.specs.Entries.{field, amount_field}
 
 -- "`commitment HOUR UNIT KWH` for each that is over 0, hour then unit ascending"
-unfoldable pub commitment_line : Book → (h k : ℕ) → List ℕ
-commitment_line b h k =
-    cond (eqb (commitment_at b h k).0 0) []
-    (bytes "commitment" ++ (field (h + 1) ++ (field (k + 1) ++ (field (commitment_at b h k).0 ++ (10 ∷ [])))))
+unfoldable pub held_line : (h k : ℕ) → HubKwh → List ℕ
+held_line h k held =
+    cond (eqb held.0 0) [] (bytes "commitment" ++ (field (h + 1) ++ (field (k + 1) ++ (field held.0 ++ (10 ∷ [])))))
+
+abbrev pub commitment_line : Book → (h k : ℕ) → List ℕ
+commitment_line b h k = held_line h k (commitment_at b h k)
 
 unfoldable pub hour_commitments : Book → (h : ℕ) → List ℕ
 hour_commitments b h = joined places (commitment_line b h)

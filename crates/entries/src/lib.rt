@@ -1,11 +1,10 @@
 // What `replay` prints of a list of calls, written into a lent buffer: a line for each call with its result, and the tables behind them.
 #![tactic(auto, using(decimal::proofs::Laws::written_append, decimal::proofs::Laws::written_none))]
 
-ghost use Rattle.std.specs.Prelude.{◌≡◌, ◌<◌};
-ghost use Rattle.state.specs.Sizes.{hours, places};
+ghost use Rattle.std.specs.Prelude.{◌≡◌, ℕ, ◌/◌, ◌%◌, List};
 ghost use Rattle.decimal.specs.Writer.{Wrote};
-ghost use Rattle.entries.specs.Entries.{field, amount_field, refusal_text, sheet_refused, answer_text, total_text, line_text, entry_line, stop_line};
-ghost use Rattle.entries.specs.Tables.{commitment_line, commitment_lines, tables, total_line};
+ghost use Rattle.entries.specs.Entries.{place_text, refusal_text, sheet_refused, effect_text, sum_text, outcome_text, line_text, entry_line, stop_line};
+ghost use Rattle.entries.specs.Tables.{held_line, commitment_lines, tables, total_line};
 
 use decimal::Writer;
 use energy::HubKwh;
@@ -13,36 +12,60 @@ use ledger::{Effect, Refusal};
 use lines::TextRefusal;
 use state::Book;
 
-// A number behind a space.
-#[tactic(auto, using(decimal::proofs::Laws::written_append), unfolding(crate::specs::Entries::field))]
-fn put_field(out: &mut Writer, n: u64)
-    ensures { Wrote out.old out.new (field n) }
-{
-    out.put_byte(b' ');
-    out.put_number(n);
+// What a line of the text comes to where it is not refused.
+pub trait Accepted: Copy {
+    ghost text: { Self → List ℕ };
+
+    fn put(self, out: &mut Writer)
+        ensures { Wrote out.old out.new (text self) };
 }
 
-// An amount with its sign, behind a space.
-#[tactic(auto, using(decimal::proofs::Laws::written_append), unfolding(crate::specs::Entries::amount_field))]
-fn put_amount(out: &mut Writer, z: i64)
-    ensures { Wrote out.old out.new (amount_field z) }
-{
-    out.put_byte(b' ');
-    out.put_signed(z);
+// A call, by what it did.
+impl Accepted for Effect {
+    ghost text = { effect_text };
+
+    #[tactic(auto, using(decimal::proofs::Laws::written_append), unfolding(crate::specs::Entries::effect_text))]
+    fn put(self, out: &mut Writer) {
+        match self {
+            Effect::Committed => out.put_bytes(b"accepted"),
+            Effect::Posted(n) => {
+                out.put_bytes(b"accepted=");
+                out.put_number(n);
+            }
+        }
+    }
 }
 
-// `refused=NUMBER`, for 1 to 4 with the line.
-#[tactic(auto, using(decimal::proofs::Laws::written_append, decimal::proofs::Laws::written_end), unfolding(crate::specs::Entries::refusal_text))]
-fn put_refusal(out: &mut Writer, refusal: Refusal)
-    ensures { Wrote out.old out.new (refusal_text refusal) }
+// A total, by its sum.
+impl Accepted for i64 {
+    ghost text = { sum_text };
+
+    #[tactic(auto, using(decimal::proofs::Laws::written_append), unfolding(crate::specs::Entries::sum_text))]
+    fn put(self, out: &mut Writer) {
+        out.put_bytes(b"sum=");
+        out.put_signed(self);
+    }
+}
+
+// For 1 to 4 ` line=LINE`.
+#[tactic(auto, using(decimal::proofs::Laws::written_append, decimal::proofs::Laws::written_none), unfolding(crate::specs::Entries::place_text))]
+fn put_place(out: &mut Writer, refusal: Refusal)
+    ensures { Wrote out.old out.new (place_text refusal) }
 {
-    let number = refusal.number();
-    out.put_bytes(b"refused=");
-    out.put_number(number);
-    if number <= 4 {
+    if refusal.number() <= 4 {
         out.put_bytes(b" line=");
         out.put_number(refusal.line());
     }
+}
+
+// `refused=NUMBER`, for 1 to 4 with the line.
+#[tactic(auto, using(decimal::proofs::Laws::written_append), unfolding(crate::specs::Entries::refusal_text))]
+fn put_refusal(out: &mut Writer, refusal: Refusal)
+    ensures { Wrote out.old out.new (refusal_text refusal) }
+{
+    out.put_bytes(b"refused=");
+    out.put_number(refusal.number());
+    put_place(out, refusal);
 }
 
 // The line of a sheet that is refused.
@@ -55,62 +78,41 @@ pub fn put_sheet_refused(out: &mut Writer, refusal: TextRefusal)
     out.put_byte(b'\n');
 }
 
-#[tactic(auto, using(decimal::proofs::Laws::written_append), unfolding(crate::specs::Entries::answer_text))]
-fn put_answer(out: &mut Writer, answer: Result<Effect, Refusal>)
-    ensures { Wrote out.old out.new (answer_text answer) }
+// What a line comes to, or why it is refused.
+#[tactic(auto, unfolding(crate::specs::Entries::outcome_text))]
+fn put_answer<T: Accepted>(out: &mut Writer, answer: Result<T, Refusal>)
+    ensures { Wrote out.old out.new (outcome_text T.text answer) }
 {
     match answer {
-        Ok(Effect::Committed) => out.put_bytes(b"accepted"),
-        Ok(Effect::Posted(n)) => {
-            out.put_bytes(b"accepted=");
-            out.put_number(n);
-        }
+        Ok(accepted) => accepted.put(out),
         Err(refusal) => put_refusal(out, refusal),
     }
 }
 
-#[tactic(auto, using(decimal::proofs::Laws::written_append), unfolding(crate::specs::Entries::total_text))]
-fn put_sum(out: &mut Writer, t: Result<i64, Refusal>)
-    ensures { Wrote out.old out.new (total_text t) }
-{
-    match t {
-        Ok(sum) => {
-            out.put_bytes(b"sum=");
-            out.put_signed(sum);
-        }
-        Err(refusal) => put_refusal(out, refusal),
-    }
-}
-
-// The line at a place of the text, as it stands.
-fn put_line(out: &mut Writer, text: &[u8], from: usize)
-    ensures { Wrote out.old out.new (line_text text.now from) }
+// The line at a place of the text, without its LF; past the end there is none.
+fn line_at(text: &[u8], from: usize) -> &[u8]
+    ensures { result.now ≡ line_text text.now from }
 {
     if from < text.len() {
-        let e = text::find(text, from, b'\n');
-        out.put_bytes(&text[from..e]);
+        &text[from..text::find(text, from, b'\n')]
+    } else {
+        b""
     }
 }
 
-// The line of a call, and what it answers.
+// The line at a place of the text as it stands, and what the call or the total that it asks for comes to.
 #[tactic(auto, using(decimal::proofs::Laws::written_append), unfolding(crate::specs::Entries::entry_line))]
-pub fn put_call(out: &mut Writer, text: &[u8], from: usize, answer: Result<Effect, Refusal>)
-    ensures { Wrote out.old out.new (entry_line text.now from (answer_text answer)) }
+pub fn put_entry<T: Accepted>(
+    out: &mut Writer,
+    text: &[u8],
+    from: usize,
+    answer: Result<T, Refusal>,
+)
+    ensures { Wrote out.old out.new (entry_line text.now from (outcome_text T.text answer)) }
 {
-    put_line(out, text, from);
+    out.put_bytes(line_at(text, from));
     out.put_byte(b' ');
     put_answer(out, answer);
-    out.put_byte(b'\n');
-}
-
-// The line of a total, and what it answers.
-#[tactic(auto, using(decimal::proofs::Laws::written_append), unfolding(crate::specs::Entries::entry_line))]
-pub fn put_total(out: &mut Writer, text: &[u8], from: usize, t: Result<i64, Refusal>)
-    ensures { Wrote out.old out.new (entry_line text.now from (total_text t)) }
-{
-    put_line(out, text, from);
-    out.put_byte(b' ');
-    put_sum(out, t);
     out.put_byte(b'\n');
 }
 
@@ -126,28 +128,26 @@ pub fn put_stop(out: &mut Writer, refusal: TextRefusal)
     out.put_byte(b'\n');
 }
 
-// The commitment of the unit of place k in hour h, both from 0, where it is over 0.
-#[tactic(auto, using(decimal::proofs::Laws::written_append, decimal::proofs::Laws::written_none), unfolding(crate::specs::Tables::commitment_line))]
-fn put_commitment(out: &mut Writer, book: &Book, h: usize, k: usize)
-    requires { (h < hours) × (k < places) }
-    ensures { Wrote out.old out.new (commitment_line book.now h k) }
+// The commitment of entry e, that of hour e / 8 and place e % 8, where it is over 0.
+#[tactic(auto, using(decimal::proofs::Laws::written_append, decimal::proofs::Laws::written_none), unfolding(crate::specs::Tables::held_line))]
+fn put_commitment(out: &mut Writer, e: usize, held: HubKwh)
+    ensures { Wrote out.old out.new (held_line (e / 8) (e % 8) held) }
 {
-    let held = book.commitment[8 * h + k];
     if held != HubKwh(0) {
         out.put_bytes(b"commitment");
-        put_field(out, h as u64 + 1);
-        put_field(out, k as u64 + 1);
-        put_field(out, held.0);
+        out.put_field(e as u64 / 8 + 1);
+        out.put_field(e as u64 % 8 + 1);
+        out.put_field(held.0);
         out.put_byte(b'\n');
     }
 }
 
-#[tactic(auto, using(listing::proofs::Joined::none_joined, listing::proofs::Joined::next_joined, crate::proofs::Commitments::all_commitments))]
+#[tactic(auto, using(listing::proofs::Joined::none_joined, crate::proofs::Commitments::all_commitments))]
 fn put_commitments(out: &mut Writer, book: &Book)
     ensures { Wrote out.old out.new (commitment_lines book.now) }
 {
-    for e in 0..192 {
-        put_commitment(out, book, e / 8, e % 8);
+    for (e, held) in book.commitment.iter().enumerate() {
+        put_commitment(out, e, *held);
     }
 }
 
@@ -157,7 +157,7 @@ pub fn put_tables(out: &mut Writer, units: u64, book: &Book)
     ensures { Wrote out.old out.new (tables units book.now) }
 {
     put_commitments(out, book);
-    listing::put_settled_behind(out, b"settled ", units, book);
+    listing::put_settled(out, b"settled ", units, book);
 }
 
 // A line of the table of totals, where the unit is in the plant.
@@ -167,9 +167,9 @@ pub fn put_listed(out: &mut Writer, unit: u64, item: u64, t: Result<i64, Refusal
 {
     if let Ok(sum) = t {
         out.put_bytes(b"total");
-        put_field(out, unit);
-        put_field(out, item);
-        put_amount(out, sum);
+        out.put_field(unit);
+        out.put_field(item);
+        out.put_field(sum);
         out.put_byte(b'\n');
     }
 }

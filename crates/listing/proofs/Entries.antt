@@ -2,7 +2,7 @@
 -- hour that is not settled has none at any place.
 -- Assumes nothing.
 use mathlib.Core.Path.{◌≡◌, refl, sym, ap, ap₂, ◌∙◌}
-use mathlib.Core.Bool.{Bool, true, false, cond}
+use mathlib.Core.Bool.{Bool, true, false, cond, ◌&&◌}
 use mathlib.Core.List.{List, [], ◌++◌, append_assoc, append-nil}
 use Prim.Native.Nat.{ℕ, zero, suc, ◌+◌, ◌*◌, ◌/◌, ◌%◌, ◌<◌}
 use native.Mathlib.Omega.{arith}
@@ -42,15 +42,21 @@ joined_where true n f = refl
 joined_where false zero f = refl
 joined_where false (suc n) f = ap (λ (l : List ℕ). l ++ []) (joined_where false n f)
 
+-- a line that two tests allow
+both : (s t : Bool) (l : List ℕ) → cond (s && t) l [] ≡ cond s (cond t l []) []
+both true t l = refl
+both false t l = refl
+
 module _ (front : List ℕ) (units : ℕ) (b : Book) where
   entry_at : (h k : ℕ) → k < places → entry_line front units b (8 * h + k) ≡ cond (eqb (mark_at b h) settled_mark) (line_behind front units b h k) []
   unfolding line_behind
   entry_at h k l =
       let hour : (8 * h + k) / 8 ≡ h = omega arith in
       let place : (8 * h + k) % 8 ≡ k = omega arith in
-      λ i. cond (eqb (mark_at b (hour i)) settled_mark)
-      (cond (member_at units (place i))
-      (front ++ unit_line (hour i + 1) (place i + 1) (get_or b.energy (8 * h + k) no_grains).0 (get_or b.amounts (8 * h + k) past_amounts)) []) []
+      let grains = (get_or b.energy (8 * h + k) no_grains).0 in
+      let amounts = get_or b.amounts (8 * h + k) past_amounts in
+      ap₂ (λ (x y : ℕ). cond (eqb (mark_at b x) settled_mark && member_at units y) (front ++ unit_line (x + 1) (y + 1) grains amounts) []) hour place
+      ∙ both (eqb (mark_at b h) settled_mark) (member_at units k) (front ++ unit_line (h + 1) (k + 1) grains amounts)
 
   pub all_entries : joined 192 (entry_line front units b) ≡ settled_behind front units b
   unfolding settled_behind hour_behind

@@ -1,5 +1,5 @@
 -- What the statement prints (01, Program and marked figures), as bytes: 10 is LF, 32 a space.
-use Rattle.std.specs.Prelude.{ℕ, zero, suc, ◌+◌, ◌*◌, ◌/◌, ◌%◌, cond, List, [], ◌∷◌, ◌++◌, eqb, get_or}
+use Rattle.std.specs.Prelude.{ℕ, zero, suc, ◌+◌, ◌*◌, ◌/◌, ◌%◌, cond, ◌&&◌, List, [], ◌∷◌, ◌++◌, eqb, get_or}
 use Rattle.decimal.specs.Decimal.{digits, signed, most_number}
 use Rattle.text.specs.Bytes.{bytes}
 use Rattle.units.specs.Units.{member_at}
@@ -65,8 +65,8 @@ settled_behind front units b = joined hours (hour_behind front units b)
 -- for the code: the same line by line, that of entry e being of hour e / 8 and place e % 8
 abbrev pub entry_line : (front : List ℕ) → (units : ℕ) → Book → (e : ℕ) → List ℕ
 entry_line front units b e =
-    cond (eqb (mark_at b (e / 8)) settled_mark)
-    (cond (member_at units (e % 8)) (front ++ unit_line (e / 8 + 1) (e % 8 + 1) (get_or b.energy e no_grains).0 (get_or b.amounts e past_amounts)) []) []
+    cond (eqb (mark_at b (e / 8)) settled_mark && member_at units (e % 8))
+    (front ++ unit_line (e / 8 + 1) (e % 8 + 1) (get_or b.energy e no_grains).0 (get_or b.amounts e past_amounts)) []
 
 -- "on the first refusal it prints only `refused=` and the number"
 unfoldable pub refusal_line : ℕ → List ℕ

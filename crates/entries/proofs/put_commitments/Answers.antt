@@ -1,20 +1,19 @@
 -- One entry more at a time.
 -- Assumes nothing.
-use Prim.Native.Nat.{ℕ, ◌/◌, ◌%◌}
+use Prim.Native.Nat.{ℕ}
 use mathlib.Core.Path.{◌≡◌, ap, ◌∙◌}
 use native.Mathlib.Omega.{arith}
 use Rattle.decimal.specs.Output.{written}
 use Rattle.decimal.specs.Writer.{held}
 use Rattle.listing.specs.Listing.{joined}
 use Rattle.listing.proofs.Joined.{joined_more}
-use Rattle.entries.specs.Tables.{commitment_line}
-use Rattle.entries.proofs.Commitments.{all_commitments}
+use Rattle.entries.proofs.Commitments.{entry_commitment, all_commitments}
 use Rattle.entries.proofs.put_commitments.Goals as goal
 
 pub loop-e-preserved : goal.loop-e-preserved
 loop-e-preserved c =
-    joined_more c.loop-e.e (λ e. commitment_line c.args.book.now (e / 8) (e % 8)) c.args.out.now c.loop-e.out c.put_commitment.new.out c.loop-e.invariant
-    c.put_commitment.ensures
+    let g = c.args in
+    joined_more c.loop-e.e (entry_commitment g.book.now) g.out.now c.loop-e.out c.put_commitment.new.out c.loop-e.invariant c.put_commitment.ensures
 
 pub returns : goal.returns
 returns c =
@@ -24,6 +23,6 @@ returns c =
     record {
       same_buffer = w.same_buffer;
       bytes_after = w.bytes_after
-          ∙ (ap (λ (n : ℕ). written (held g.out.now) (joined n (λ e. commitment_line g.book.now (e / 8) (e % 8)))) all
+          ∙ (ap (λ (n : ℕ). written (held g.out.now) (joined n (entry_commitment g.book.now))) all
           ∙ ap (written (held g.out.now)) (all_commitments g.book.now));
     }

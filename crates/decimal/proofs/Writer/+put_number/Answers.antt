@@ -1,17 +1,13 @@
--- How many bytes these are: two, or as many as the number has.
+-- As many bytes as the number has.
 -- Assumes nothing.
 use mathlib.Core.Path.{◌≡◌}
 use native.Mathlib.Omega.{arith}
 use Rattle.decimal.specs.Output.{written}
 use Rattle.decimal.specs.Writer.{held}
-use Rattle.decimal.specs.Decimal.{digits, two_digits}
+use Rattle.decimal.specs.Decimal.{digits}
 use Rattle.decimal.proofs.Laws.{written_append, digits_hundreds}
 use Rattle.decimal.proofs.Lengths.{place_most, digits_most}
 use Rattle.decimal.proofs.Writer.+put_number.Goals as goal
-
-pub returns-then-n-lt100-clause-upper_bound : goal.returns-then-n-lt100-clause-upper_bound
-returns-then-n-lt100-clause-upper_bound t c =
-    place_most _ _ (two_digits c.args.n) 20 c.put_two.ensures.bytes_after (omega arith)
 
 pub returns-else-n-lt100-clause-upper_bound : goal.returns-else-n-lt100-clause-upper_bound
 returns-else-n-lt100-clause-upper_bound t c =

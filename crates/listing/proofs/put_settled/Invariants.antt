@@ -2,7 +2,7 @@ use Prim.Native.Nat.{◌+◌, ◌*◌, ◌≤◌}
 use lib.ListN.{length}
 use Rattle.decimal.specs.Writer.{Wrote}
 use Rattle.listing.specs.Listing.{most_line, joined, entry_line}
-use Rattle.listing.proofs.put_settled_behind.Given as goal
+use Rattle.listing.proofs.put_settled.Given as goal
 
 abbrev pub invariant-loop-e : goal.invariant-loop-e
 invariant-loop-e l =
