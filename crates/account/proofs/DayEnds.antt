@@ -30,7 +30,7 @@ use Rattle.ledger.specs.declared.Asked.{Asked}
 use Rattle.ledger.specs.declared.Refusal.TheVariants.{Text, SheetRange, BookRange, HourStands}
 use Rattle.ledger.specs.Calls.{Row, row, verdict, is_settled, always_rows, book_fits, text_rows, record_rows, request_rows, rows_of, accepted_in, recorded_at, place_after as place_behind, by_verdict, refused_with, decided, plain_request, record_request, Decision}
 use Rattle.ledger.specs.Requests.{call_for, part_of}
-use Rattle.single.specs.Journal.{performed}
+use Rattle.engine.specs.Journal.{performed}
 use Rattle.account.specs.declared.Due.{Due}
 use Rattle.account.specs.declared.DayRefusal.{DayRefusal}
 use Rattle.day_calls.specs.declared.Next.TheVariants.{Settle}

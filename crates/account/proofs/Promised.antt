@@ -12,7 +12,7 @@ use Rattle.ledger.specs.Requests.{call_for}
 use Rattle.ledger.specs.Calls.{State, carried_out, request_of, ran_from, begun as begun_state}
 use Rattle.ledger.specs.Demand.{Demand}
 use Rattle.ledger.proofs.Promise.{promise}
-use Rattle.single.specs.Journal.{performed}
+use Rattle.engine.specs.Journal.{performed}
 use Rattle.account.specs.declared.Due.{Due}
 use Rattle.account.specs.Day.{Pending, day_after, Running, turned, ran_by, ran_to, ran_out, calls_by, calls_to, most_calls, state_of, begun, day_calls}
 

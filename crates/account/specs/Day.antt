@@ -13,7 +13,7 @@ use Rattle.ledger.specs.Numbers.{refusal_number}
 use Rattle.ledger.specs.Ledger.{Call}
 use Rattle.ledger.specs.Calls.{State}
 use Rattle.ledger.specs.Requests.{call_for}
-use Rattle.single.specs.Journal.{Performed, performed}
+use Rattle.engine.specs.Journal.{Performed, performed}
 use Rattle.day_calls.specs.declared.Next.TheVariants.{Take, Settle}
 use Rattle.day_calls.specs.DayCalls.{next_at, Coming}
 use Rattle.account.specs.declared.DayRefusal.{DayRefusal}

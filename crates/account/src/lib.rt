@@ -12,7 +12,9 @@ ghost use Rattle.account.specs.declared.DayRefusal.TheVariants.{Line as not_a_ca
 ghost use Rattle.account.specs.Statement.{day_lines, statement_of};
 
 use day_calls::Next;
+use decisions::Call;
 use decimal::Writer;
+use journal::Accounts;
 use ledger::{Asked, Effect, Refusal};
 use sheet::Sheet;
 use state::Book;
@@ -100,47 +102,31 @@ fn due_after(
     }
 }
 
-// The day behind a sheet that passes 9, over a journal of 2,000 places: each call is carried out as it comes, on the
-// numbers of the book. What is posted is not printed, so the number of postings alone is kept. Each call takes a byte
-// of the text at least, so no more come than the loop has turns.
-fn day_of(sheet: Sheet, text: &[u8], at: usize) -> Day
-    requires { sheet_holds sheet ≡ true }
-    ensures { result ≡ day_from sheet text.now at }
+// The day behind a sheet that passes 9, over a journal of 2,000 places: each call is carried out as it comes. From the empty book on 12 never comes up, so that
+// neither is tested. Each call takes a byte of the text at least, so no more come than the loop has turns.
+fn day_of(sheet: &Sheet, text: &[u8], at: usize) -> Day
+    requires { sheet_holds sheet.now ≡ true }
+    ensures { result ≡ day_from sheet.now text.now at }
 {
-    let terms = terms::terms_of(sheet);
-    let offers = numbers::offer_numbers(sheet);
-    let mut commitment = [0u64; 192];
-    let mut mark = [0u64; 24];
-    let mut energy = [0u64; 192];
-    let mut amounts = [0i64; 960];
-    let mut rows = [0i64; 40];
-    let mut count: u64 = 0;
+    let mut list = [postings::no_posting(); 2000];
+    let mut accounts = Accounts {
+        sheet,
+        book: state::empty_book(),
+        list: &mut list,
+        count: 0,
+    };
     let mut due = due_at(text, at);
     for _ in 0..text.len() + 1 {
         let Ok(Some(next)) = due else {
             break;
         };
-        let done = engine::carry_out(
-            &mut commitment,
-            &mut mark,
-            &mut energy,
-            &mut amounts,
-            &mut rows,
-            0,
-            &offers,
-            terms,
-            text,
-            decisions::decode(next.asked),
-            count,
-            2000,
-        );
-        count += decisions::posted_of(done.answer);
+        let done = accounts.answer(Ok(()), text, Call::from(next.asked));
         due = due_after(text, next.after, done.place, done.answer);
     }
     Day {
-        count: count,
-        book: numbers::book_by(&commitment, mark, &energy, &amounts),
-        due: due,
+        count: accounts.count,
+        book: accounts.book,
+        due,
     }
 }
 
@@ -167,7 +153,7 @@ fn put_statement(out: &mut Writer, text: &[u8])
 {
     match sheet_text::read_sheet(text, 0) {
         Ok(read) => {
-            let day = day_of(read.sheet, text, read.place as usize);
+            let day = day_of(&read.sheet, text, read.place as usize);
             put_day(out, read.sheet.units, &day);
         }
         Err(refusal) => {

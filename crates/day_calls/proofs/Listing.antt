@@ -12,7 +12,7 @@ use lib.ListN.{length, get_or, length-append, get_or-append}
 use lib.Seq.{length-paste, get_or_at, append_snoc}
 use Rattle.finite.specs.Finite.{tabulate}
 use Rattle.finite.proofs.Tables.{length_tabulate, get_d_tabulate}
-use Rattle.numbers.proofs.Pasted.{pasted_before, pasted_in}
+use Rattle.day_calls.proofs.Pasted.{pasted_before, pasted_in}
 use Rattle.ledger.specs.declared.Asked.{Asked}
 use Rattle.ledger.specs.Requests.{call_numbers, asked_at, none_asked}
 use Rattle.day_calls.specs.declared.Step.{Step}

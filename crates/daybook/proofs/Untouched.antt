@@ -12,7 +12,7 @@ use Rattle.ledger.specs.declared.Refusal.{Refusal}
 use Rattle.ledger.specs.declared.Refusal.TheVariants.{SheetRange, BookRange, HourRange}
 use Rattle.ledger.specs.Calls.{Decision, by_verdict, refused_with, verdict, decided, request_rows}
 use Rattle.ledger.specs.Ledger.{take}
-use Rattle.single.specs.Journal.{Performed, done_by, performed}
+use Rattle.engine.specs.Journal.{Performed, done_by, performed}
 
 pub record Untouched (l : List Posting) (count : ℕ) (b : Book) (p : Performed) : Type 0 where
   pub list : p.list ≡ l

@@ -3,7 +3,7 @@
 use Rattle.std.specs.Prelude.{Option, Some, None, Result, Ok, Err}
 use Rattle.text.specs.declared.TextFault.{TextFault}
 use Rattle.lines.specs.declared.TextRefusal.{TextRefusal}
-use Rattle.std.specs.Prelude.{ℕ, zero, suc, ◌+◌, ◌/◌, ◌%◌, List, [], ◌++◌, replicate}
+use Rattle.std.specs.Prelude.{◌≡◌, ℕ, zero, suc, ◌+◌, ◌/◌, ◌%◌, List, [], ◌++◌, replicate}
 use Rattle.sheet.specs.declared.Sheet.{Sheet}
 use Rattle.sheet_text.specs.Day.{read_sheet}
 use Rattle.state.specs.declared.Book.{Book}
@@ -14,7 +14,7 @@ use Rattle.ledger.specs.Answers.{TotalAnswer}
 use Rattle.ledger.specs.declared.Asked.{Asked}
 use Rattle.ledger.specs.Requests.{call_for}
 use Rattle.ledger.specs.Total.{total_on}
-use Rattle.single.specs.Journal.{Performed, performed}
+use Rattle.engine.specs.Journal.{Performed, performed}
 use Rattle.asks.specs.declared.Asks.{Asks}
 use Rattle.asks.specs.declared.Asks.TheVariants.{Call, Total}
 use Rattle.asks.specs.declared.Asking.{Asking}
@@ -24,7 +24,8 @@ use Rattle.asks.specs.Extent.{extent_of}
 use Rattle.listing.specs.Listing.{joined}
 use Rattle.entries.specs.Entries.{answer_text, total_text, entry_line, sheet_refused, stop_line}
 use Rattle.entries.specs.Tables.{tables, total_line}
-use Rattle.daybook.specs.declared.Stand.{Stand}
+use Rattle.journal.specs.Accounts.{Same}
+use Rattle.daybook.specs.declared.Replay.{Replay}
 
 -- the journal's list, the count and the book, and the place of the next line in the text
 pub record Course : Type 0 where
@@ -33,8 +34,14 @@ pub record Course : Type 0 where
   pub book : Book
   pub at : ℕ
 
-abbrev pub course : List Posting → Stand → Course
-course list s = record { list = list; count = s.count; book = s.book; at = s.at }
+abbrev pub course : Replay → Course
+course r = record { list = r.accounts.list.now; count = r.accounts.count; book = r.accounts.book; at = r.at }
+
+-- a run that has come to a course, of the same text and sheet and over the same lent list
+pub record Goes (r r' : Replay) (c : Course) : Type 0 where
+  pub course_is : course r' ≡ c
+  pub same : Same r.accounts r'.accounts
+  pub text_is : r'.text ≡ r.text
 
 -- the call of a line, and the total of a line
 abbrev pub called : Sheet → List ℕ → Course → Asked → Performed

@@ -35,5 +35,5 @@ standing_row again settled = cond again (row HourOpen (not settled)) (row HourSt
 unfoldable pub record_decided : HourSheet → List HubKwh → (again settled : Bool) → RecordTold → (count places : ℕ) → Result HourChange Refusal
 record_decided day held again settled read count places =
     let r = read.read in
-    change_by (verdict (text_rows read.answer ++ record_tests day.units (proportions_by day.units day.own r) r (standing_row again settled) count places))
+    change_by (verdict (text_rows read.answer ++ record_tests day.units (proportions_by day r) r (standing_row again settled) count places))
     (hour_changed r.hour true (hour_by day r held) (place_after 0 read.answer))

@@ -14,7 +14,7 @@ ghost use Rattle.decisions.specs.Hours.{void_decided, standing_row, record_decid
 use energy::{Energy, HubKwh};
 use ledger::{Asked, Effect, Refusal};
 use record_text::RecordRead;
-use settlement::HourResult;
+use settlement::{DueHour, HourResult};
 use terms::HourSheet;
 
 // The calls that change commitments.
@@ -334,7 +334,7 @@ pub fn decide_record(
     ensures { result ≡ record_decided day.now held.now again settled (record { answer = Ok r.now.place; read = r.now.read }) count places }
 {
     let units = day.units;
-    let read = r.read;
+    let read = &r.read;
     if !record::minutes_hold(read, units) {
         return Err(Refusal::Minutes);
     }
@@ -344,17 +344,22 @@ pub fn decide_record(
     if !readings::readings_hold(read, units) {
         return Err(Refusal::Readings);
     }
-    if !settlement::proportions_hold(*day, read) {
+    if !settlement::proportions_hold(day, read) {
         return Err(Refusal::Proportions);
     }
     if short_of(units, count, places) {
         return Err(Refusal::NoPlaces);
     }
+    let due = DueHour {
+        day,
+        hour: read,
+        commitment: held,
+    };
     Ok(HourChange {
         hour: read.hour,
         place: r.place,
         settled: true,
-        result: settlement::settle_hour(*day, read, *held),
+        result: due.settle_hour(),
     })
 }
 

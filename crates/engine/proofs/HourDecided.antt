@@ -37,7 +37,7 @@ module _ (s : Sheet) (b : Book) (count room : ℕ) where
   read_on : (r : Record) (start place : ℕ) (standing : Row)
       → let day = hour_sheet s r.hour in
       decision_of s.units b count start
-      (change_by (verdict (record_tests day.units (proportions_by day.units day.own r) r standing count room))
+      (change_by (verdict (record_tests day.units (proportions_by day r) r standing count room))
       (hour_changed r.hour true (hour_by day r (hour_commitments b (r.hour - 1))) place))
       ≡ by_verdict (verdict (record_rows s r standing count room)) (recorded_at s b r place count) (refused_with b count start)
   read_on r start place standing =

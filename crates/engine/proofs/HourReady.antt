@@ -106,7 +106,7 @@ module _ (s : Sheet) (b : Book) (count room : ℕ) (r : Ready s b count room) wh
 
     accepted_ready : (again settled : Bool) (place : ℕ) (d : HourChange)
         → let day = hour_sheet s read.hour in
-        change_by (verdict (record_tests day.units (proportions_by day.units day.own read) read (standing_row again settled) count room))
+        change_by (verdict (record_tests day.units (proportions_by day read) read (standing_row again settled) count room))
         (hour_changed read.hour true (hour_by day read held) place) ≡ Ok d
         → ChangeReady s.units count room d
     accepted_ready again settled place d e =

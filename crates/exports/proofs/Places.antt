@@ -11,8 +11,9 @@ use borrow.Author.Tests.{lt-ltb, le-ltb}
 use Rattle.postings.specs.declared.Posting.{Posting}
 use Rattle.postings.specs.Journal.{no_posting}
 use Rattle.sheet.specs.declared.Sheet.{Sheet}
-use Rattle.batch.specs.declared.Ran.{Ran}
-use Rattle.batch.specs.Run.{Running, start_ran, turns_of, ran_all}
+use Rattle.state.specs.Book.{empty_book}
+use Rattle.journal.specs.declared.Ran.{Ran}
+use Rattle.journal.specs.Run.{Running, start_on, turns_of, ran_all}
 use Rattle.exports.specs.Exports.{signed_of, posting_stored, listed_to, own_start, Owned, owned_by, owned_of}
 
 abbrev four : List ℤ → ℕ → (a b c d : ℤ) → List ℤ
@@ -46,7 +47,7 @@ listed_length l list (suc k) = stored_length (listed_to l list k) k (get_or list
 
 -- what `run` leaves, listed
 pub owned_is : (sheet : Sheet) (places : ℕ) (calls text answers : List ℕ) (postings : List ℤ) (r : Ran) (list : List Posting) (answered : List ℕ) (numbers : List ℤ)
-    → ◌≡◌ {A = Running} (record { list = list; answers = answered; ran = r }) (ran_all sheet calls text (record { list = replicate places no_posting; answers = answers; ran = start_ran }) (turns_of (length calls) (length answers)))
+    → ◌≡◌ {A = Running} (record { list = list; answers = answered; book = r.book; count = r.count }) (ran_all sheet calls text (start_on (replicate places no_posting) answers 0 empty_book) (turns_of (length calls) (length answers)))
     → numbers ≡ listed_to postings list (length list) → ◌≡◌ {A = Owned} (record { ran = r; answers = answered; postings = numbers }) (owned_of sheet places calls text answers postings)
 unfolding own_start
 owned_is sheet places calls text answers postings r list answered numbers e f =

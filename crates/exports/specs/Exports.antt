@@ -8,12 +8,12 @@ use Rattle.sheet.specs.declared.Sheet.{Sheet}
 use Rattle.sheet_text.specs.Day.{read_sheet}
 use Rattle.settlement.specs.declared.Amounts.{Amounts}
 use Rattle.state.specs.declared.Book.{Book}
-use Rattle.state.specs.Book.{no_kwh, no_grains, past_amounts, item_of}
+use Rattle.state.specs.Book.{empty_book, no_kwh, no_grains, past_amounts, item_of}
 use Rattle.state.specs.Sizes.{hours, items, entries}
 use Rattle.postings.specs.declared.Posting.{Posting}
 use Rattle.postings.specs.Journal.{no_posting}
-use Rattle.batch.specs.declared.Ran.{Ran}
-use Rattle.batch.specs.Run.{Running, start_ran, turns_of, ran_all}
+use Rattle.journal.specs.declared.Ran.{Ran}
+use Rattle.journal.specs.Run.{Running, start_on, turns_of, ran_all}
 
 -- the values of a table stored one after the other from the place `at` on
 unfoldable pub put : {A : Type 0} → List A → (at : ℕ) → (ℕ → A) → ℕ → List A
@@ -65,7 +65,7 @@ most_places = 100040
 
 -- "Demand 3's calls share one list of places, of any length and contents, with count 0 at first": here of `places` places, all empty
 unfoldable pub own_start : (places : ℕ) → List ℕ → Running
-own_start places answers = record { list = replicate places no_posting; answers = answers; ran = start_ran }
+own_start places answers = start_on (replicate places no_posting) answers 0 empty_book
 
 abbrev pub end_of : Sheet → (places : ℕ) → (calls text answers : List ℕ) → Running
 end_of sheet places calls text answers = ran_all sheet calls text (own_start places answers) (turns_of (length calls) (length answers))
@@ -77,7 +77,7 @@ pub record Owned : Type 0 where
   pub postings : List ℤ
 
 abbrev pub owned_by : Running → List ℤ → Owned
-owned_by end postings = record { ran = end.ran; answers = end.answers; postings = listed_to postings end.list (length end.list) }
+owned_by end postings = record { ran = record { book = end.book; count = end.count }; answers = end.answers; postings = listed_to postings end.list (length end.list) }
 
 abbrev pub owned_of : Sheet → (places : ℕ) → (calls text answers : List ℕ) → List ℤ → Owned
 owned_of sheet places calls text answers postings = owned_by (end_of sheet places calls text answers) postings

@@ -7,7 +7,7 @@ ghost use Rattle.listing.specs.Listing.{most_bytes};
 ghost use Rattle.account.specs.Statement.{statement_of};
 ghost use Rattle.exports.specs.Exports.{commitment_numbers, mark_numbers, energy_numbers, held_numbers, item_numbers, amount_numbers, signed_of, posting_stored, listed_to, most_places, owned_of, called_of};
 
-use batch::Ran;
+use journal::Ran;
 use postings::Posting;
 use settlement::Amounts;
 use sheet::Sheet;
@@ -110,7 +110,7 @@ fn listed(list: &[Posting], out: &mut [i64])
 
 // A list of calls over a journal list of so many places of its own, and the list as they leave it. The list is part of an array of `ROOM`.
 fn owned<const ROOM: usize>(
-    sheet: Sheet,
+    sheet: &Sheet,
     places: usize,
     calls: &[u64],
     text: &[u8],
@@ -119,14 +119,9 @@ fn owned<const ROOM: usize>(
 ) -> Ran
     requires room { ROOM ≤ most_places }
     requires places_in_room { places ≤ ROOM }
-    ensures { record { ran = result; answers = answers.new; postings = out.new } ≡ owned_of sheet places calls.now text.now answers.old out.old }
+    ensures { record { ran = result; answers = answers.new; postings = out.new } ≡ owned_of sheet.now places calls.now text.now answers.old out.old }
 {
-    let mut list = [Posting {
-        hour: 0,
-        unit: 0,
-        item: 0,
-        amount: 0,
-    }; ROOM];
+    let mut list = [postings::no_posting(); ROOM];
     let ran = journal::run(&mut list[..places], sheet, calls, text, answers);
     listed(&list[..places], out);
     ran
@@ -134,7 +129,7 @@ fn owned<const ROOM: usize>(
 
 // The same, over a short array where that holds the places: it is filled in a fraction of the time.
 fn carried_out(
-    sheet: Sheet,
+    sheet: &Sheet,
     places: usize,
     calls: &[u64],
     text: &[u8],
@@ -142,7 +137,7 @@ fn carried_out(
     out: &mut [i64],
 ) -> Ran
     requires { places ≤ most_places }
-    ensures { record { ran = result; answers = answers.new; postings = out.new } ≡ owned_of sheet places calls.now text.now answers.old out.old }
+    ensures { record { ran = result; answers = answers.new; postings = out.new } ≡ owned_of sheet.now places calls.now text.now answers.old out.old }
 {
     if places <= 2560 {
         return owned::<2560>(sheet, places, calls, text, answers, out);
@@ -181,7 +176,7 @@ pub extern "C" fn gozalvek_calls(
         }
         Ok(read) => {
             let n = length_of(places);
-            let ran = carried_out(read.sheet, n, calls, text, answers, postings);
+            let ran = carried_out(&read.sheet, n, calls, text, answers, postings);
             *line = 0;
             *count = ran.count;
             put_held(held, &ran.book);

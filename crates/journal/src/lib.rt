@@ -82,7 +82,7 @@ impl Accounts<'_> {
     }
 
     // A call of which it is known whether 9 or 12 refuses it; where neither does, it is carried out.
-    fn answer(&mut self, passes: Result<(), Refusal>, text: &[u8], call: Call) -> Done
+    pub fn answer(&mut self, passes: Result<(), Refusal>, text: &[u8], call: Call) -> Done
         requires { Known self.old passes }
         ensures { Performs self.old (call_of text.now call) self.new result }
     {

@@ -107,11 +107,11 @@ pub fn within(amount: i64, most: u64) -> bool
 
 // What a commitment may not exceed: the offer's last quantity, 0 outside the plant.
 #[tactic(auto, unfolding(crate::specs::Ranges::limit_of))]
-pub fn limit_of(member: bool, offer: Offer) -> HubKwh
-    ensures { result ≡ limit_of member offer }
+pub fn limit_of(member: bool, offer: &Offer) -> HubKwh
+    ensures { result ≡ limit_of member offer.now }
 {
     if member {
-        offer::last_quantity(&offer)
+        offer::last_quantity(offer)
     } else {
         HubKwh(0)
     }
@@ -124,7 +124,7 @@ fn place_holds(member: bool, unit: &UnitSheet, commitment: &[HubKwh; 192], k: us
 {
     (0..24).all(|h| {
         let held = commitment[8 * h + k];
-        held == HubKwh(0) || held <= limit_of(member, unit.offers[h])
+        held == HubKwh(0) || held <= limit_of(member, &unit.offers[h])
     })
 }
 
