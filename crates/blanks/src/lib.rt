@@ -21,7 +21,7 @@ fn given(kept: &[Line], k: usize) -> Option<&Line>
     }
 }
 
-// The number of line k, or what blank means there.
+// The number of line k, or what blank means there. It takes list and place: `value_or(given(kept, k), 0)` at each of nine calls is no plainer.
 pub fn value_or(kept: &[Line], k: usize, blank: u64) -> u64
     ensures { result ≡ value_or blank (line_in kept.now k) }
 {
