@@ -3,11 +3,13 @@
 #![tactic(auto)]
 
 ghost use Rattle.std.specs.Prelude.{◌≡◌, length};
-ghost use Rattle.decisions.specs.Calls.{call_of};
+ghost use Rattle.ledger.specs.Ledger.{void as void_call};
+ghost use Rattle.ledger.specs.Requests.{part_of};
+ghost use Rattle.decisions.specs.Calls.{call_of, record_of};
 ghost use Rattle.engine.specs.Journal.{done_by};
 ghost use Rattle.engine.specs.Carried.{left, carried, Ready, StoreReady, decision_of, recorded};
 
-use decisions::{Call, CommitmentChange, HourChange};
+use decisions::{Call, CommitmentChange, HourChange, RecordCall};
 use ledger::{Effect, Refusal};
 use postings::Posting;
 use sheet::Sheet;
@@ -80,6 +82,41 @@ fn record_change(
     decisions::decide_record(&day, &held, again, settled, &r, count, places)
 }
 
+// A settle or a restate. It stands apart from `carry_out`, and so does a void: what they need of the stack would be made ready for each take.
+#[inline(never)]
+fn carry_record(
+    book: &mut Book,
+    list: &mut [Posting],
+    count: u64,
+    sheet: &Sheet,
+    text: &[u8],
+    c: RecordCall,
+) -> Done
+    requires { Ready sheet.now book.old count (length list.old) }
+    ensures { left result book.new list.new ≡ carried sheet.now book.old count list.old (record_of c.again (part_of text.now c.begin c.end) c.start) }
+{
+    let part = decisions::part_of(text, c.begin, c.end);
+    let decided = record_change(book, sheet, part, c.start, c.again, count, list.len());
+    store_hour(book, list, count, sheet.units, decided, c.start)
+}
+
+#[inline(never)]
+fn carry_void(
+    book: &mut Book,
+    list: &mut [Posting],
+    count: u64,
+    sheet: &Sheet,
+    hour: u64,
+) -> Done
+    requires { Ready sheet.now book.old count (length list.old) }
+    ensures { left result book.new list.new ≡ carried sheet.now book.old count list.old (void_call hour) }
+{
+    let units = sheet.units;
+    let settled = book.is_settled(decisions::hour_index(hour));
+    let decided = decisions::decide_void(units, hour, settled, count, list.len());
+    store_hour(book, list, count, units, decided, 0)
+}
+
 // One call, on a book that is known to be in its ranges under a sheet that is in its own: it is tested, what it changes is stored, and what it posts is appended
 // from the count on.
 pub fn carry_out(
@@ -93,7 +130,6 @@ pub fn carry_out(
     requires { Ready sheet.now book.old count (length list.old) }
     ensures { left result book.new list.new ≡ carried sheet.now book.old count list.old (call_of text.now call) }
 {
-    let units = sheet.units;
     match call {
         Call::Commitment(c) => {
             let change = CommitmentChange::from(c);
@@ -103,15 +139,7 @@ pub fn carry_out(
                 count,
             }
         }
-        Call::Record(c) => {
-            let part = decisions::part_of(text, c.begin, c.end);
-            let decided = record_change(book, sheet, part, c.start, c.again, count, list.len());
-            store_hour(book, list, count, units, decided, c.start)
-        }
-        Call::Void(hour) => {
-            let settled = book.is_settled(decisions::hour_index(hour));
-            let decided = decisions::decide_void(units, hour, settled, count, list.len());
-            store_hour(book, list, count, units, decided, 0)
-        }
+        Call::Record(c) => carry_record(book, list, count, sheet, text, c),
+        Call::Void(hour) => carry_void(book, list, count, sheet, hour),
     }
 }
