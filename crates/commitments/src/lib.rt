@@ -18,7 +18,10 @@ fn limit_in(sheet: &Sheet, j: usize) -> HubKwh
     ensures { result ≡ limit_at sheet.now (j / places) (j % places) }
 {
     let k = j % 8;
-    state::limit_of(units::member_at(sheet.units, k), &sheet.unit[k].offers[j / 8])
+    state::limit_of(
+        units::member_at(sheet.units, k),
+        &sheet.unit[k].offers[j / 8],
+    )
 }
 
 // A take, release or move: it is tested, and where it is accepted what is given goes off one commitment and what comes is added to the other.

@@ -73,7 +73,7 @@ pub struct HourChange {
     pub result: HourResult,
 }
 
-// Group i of a list of calls in numbers, eight for each; past the last whole group none is asked for.
+// Group i of a list of calls in numbers, eight for each; past the last whole group none is asked for. The list is one of numbers, since C gives it so.
 #[tactic(auto, unfolding(ledger::specs::Requests::asked_at))]
 pub fn asked_at(calls: &[u64], i: usize) -> Asked
     ensures { result ≡ asked_at calls.now i }
@@ -94,6 +94,7 @@ pub fn asked_at(calls: &[u64], i: usize) -> Asked
     }
 }
 
+// A take, release or move of a call's numbers: the kind is no field of them, so that no `From` of one value makes the call.
 fn commitment_call(kind: CommitmentKind, asked: Asked) -> Call
     ensures { result ≡ commitment_call kind asked }
 {
@@ -106,6 +107,7 @@ fn commitment_call(kind: CommitmentKind, asked: Asked) -> Call
     })
 }
 
+// A settle or a restate likewise.
 fn record_call(again: bool, asked: Asked) -> Call
     ensures { result ≡ record_call again asked }
 {

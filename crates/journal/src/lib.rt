@@ -21,7 +21,7 @@ use postings::Posting;
 use sheet::Sheet;
 use state::Book;
 
-// The accounts of a plant's day. Postings are appended to the lent list from the count on.
+// The accounts of a plant's day. Postings are appended to the lent list from the count on; the places behind it are free, and no library has a heap to grow a list.
 #[derive(Drop)]
 pub struct Accounts<'a> {
     pub sheet: &'a Sheet,
@@ -113,6 +113,8 @@ impl Accounts<'_> {
         let known = self.passes();
         self.answer(known, text, call)
     }
+
+    // The named calls, each a thin function that promises its call by name.
 
     // A take, release or move, which has no text.
     fn commit(&mut self, call: CommitmentCall) -> Done
@@ -213,7 +215,7 @@ impl Accounts<'_> {
         Ok(sum)
     }
 
-    // A list of calls in numbers, each on what the call before it left, and their answers in numbers. 9 and 12 are tested once, since no call leads into 12; where
+    // A list of calls in numbers, each on what the call before it left, and their answers in numbers: the slices that C lends. 9 and 12 are tested once, since no call leads into 12; where
     // one of them holds, every call is refused with it.
     pub fn run_on(&mut self, calls: &[u64], text: &[u8], answers: &mut [u64])
         ensures ran { running self.new answers.new ≡ ran_all self.old.sheet.now calls.now text.now (running self.old answers.old) (turns_of (length calls.now) (length answers.old)) }
@@ -248,7 +250,13 @@ fn store_answer(answers: &mut [u64], i: usize, done: Done)
 }
 
 // A list of calls in numbers on the empty book, from the first place of the list on, with the promise about every list of calls.
-pub fn run(list: &mut [Posting], sheet: &Sheet, calls: &[u64], text: &[u8], answers: &mut [u64]) -> Ran
+pub fn run(
+    list: &mut [Posting],
+    sheet: &Sheet,
+    calls: &[u64],
+    text: &[u8],
+    answers: &mut [u64],
+) -> Ran
     ensures ran { record { list = list.new; answers = answers.new; book = result.book; count = result.count } ≡ ran_all sheet.now calls.now text.now (start_on list.old answers.old 0 empty_book) (turns_of (length calls.now) (length answers.old)) }
     ensures promised { Demand sheet.now list.old (calls_in calls.now text.now (turns_of (length calls.now) (length answers.old))) (replies_in answers.new (turns_of (length calls.now) (length answers.old))) (record { book = result.book; count = result.count; journal = list.new }) }
 {
