@@ -12,7 +12,7 @@ use ledger::{Effect, Refusal};
 use sheet::Sheet;
 use state::Book;
 
-// What the commitment of an entry, that of hour j / 8 and place j % 8, may not exceed.
+// What the commitment of an entry, that of hour j / 8 and place j % 8, may not exceed; the tested call has its entry in one number.
 fn limit_in(sheet: &Sheet, j: usize) -> HubKwh
     requires { j < entries }
     ensures { result ≡ limit_at sheet.now (j / places) (j % places) }

@@ -45,7 +45,7 @@ fn take_row() -> Row
     }
 }
 
-// The take of a line's numbers.
+// The take of a line's numbers, in the form that the list of calls in numbers has, as C would give it.
 fn take_asked(line: &Line) -> Asked
     ensures { result ≡ taken line.now }
 {
@@ -61,7 +61,7 @@ fn take_asked(line: &Line) -> Asked
     }
 }
 
-// The settle of the record that begins at a place. The list in numbers takes every call in this form.
+// The settle of the record that begins at a place, in the same form.
 fn settle_at(text: &[u8], at: usize) -> Asked
     ensures { result ≡ settle_asked text.now at }
 {

@@ -20,7 +20,7 @@ fn put_refusal<W: Write>(out: &mut W, refusal: TextRefusal) -> io::Result<()> {
 }
 
 // A record at a place.
-fn put_record<W: Write>(out: &mut W, day: Day, at: usize, sheet: Sheet) -> io::Result<()> {
+fn put_record<W: Write>(out: &mut W, day: Day, at: usize, sheet: &Sheet) -> io::Result<()> {
     write!(out, "{} record {at}", day.name)?;
     let monthly = sheet::monthly_of(sheet);
     match record_text::read_record(day.text, at as u64, sheet.units, monthly) {
@@ -36,7 +36,7 @@ fn hour_at(text: &[u8], at: usize) -> bool {
 }
 
 // The records of a text, behind its sheet.
-fn put_records<W: Write>(out: &mut W, day: Day, from: usize, sheet: Sheet) -> io::Result<()> {
+fn put_records<W: Write>(out: &mut W, day: Day, from: usize, sheet: &Sheet) -> io::Result<()> {
     let end = day.text.len();
     for at in from..end {
         if hour_at(day.text, at) {
@@ -53,7 +53,7 @@ fn put_readings<W: Write>(out: &mut W, day: Day) -> io::Result<()> {
     match sheet_text::read_sheet(day.text, 0) {
         Ok(found) => {
             writeln!(out, " read {}", found.place)?;
-            put_records(out, day, found.place as usize, found.sheet)
+            put_records(out, day, found.place as usize, &found.sheet)
         }
         Err(refusal) => put_refusal(out, refusal),
     }

@@ -10,7 +10,7 @@ ghost use Rattle.ledger.specs.Total.{item_of, total_on};
 ghost use Rattle.ledger.specs.Requests.{call_for, calls_in};
 ghost use Rattle.ledger.specs.Demand.{Demand};
 ghost use Rattle.engine.specs.Journal.{scanned_in};
-ghost use Rattle.decisions.specs.Calls.{call_of, commitment_of};
+ghost use Rattle.decisions.specs.Calls.{call_of, commitment_of, record_of};
 ghost use Rattle.journal.specs.Accounts.{state_in, passes, tested, Known, Performs, Same};
 ghost use Rattle.journal.specs.Run.{turns_of, stored_answer, replies_in, ran_all, running, start_on};
 
@@ -114,7 +114,7 @@ impl Accounts<'_> {
         self.answer(known, text, call)
     }
 
-    // The named calls, each a thin function that promises its call by name.
+    // The document names the calls; each is a thin function that promises its call by name.
 
     // A take, release or move, which has no text.
     fn commit(&mut self, call: CommitmentCall) -> Done
@@ -159,12 +159,12 @@ impl Accounts<'_> {
         })
     }
 
-    // The hour record is read from byte `start` of the text on.
-    pub fn settle(&mut self, text: &[u8], start: u64) -> Done
-        ensures { Performs self.old (settle_call text.now start) self.new result }
+    // A settle, or a restate (`again`), of the whole text.
+    fn record(&mut self, again: bool, text: &[u8], start: u64) -> Done
+        ensures { Performs self.old (record_of again text.now start) self.new result }
     {
         let call = RecordCall {
-            again: false,
+            again,
             begin: 0,
             end: text.len() as u64,
             start,
@@ -172,16 +172,17 @@ impl Accounts<'_> {
         self.perform(text, Call::Record(call))
     }
 
+    // The hour record is read from byte `start` of the text on.
+    pub fn settle(&mut self, text: &[u8], start: u64) -> Done
+        ensures { Performs self.old (settle_call text.now start) self.new result }
+    {
+        self.record(false, text, start)
+    }
+
     pub fn restate(&mut self, text: &[u8], start: u64) -> Done
         ensures { Performs self.old (restate_call text.now start) self.new result }
     {
-        let call = RecordCall {
-            again: true,
-            begin: 0,
-            end: text.len() as u64,
-            start,
-        };
-        self.perform(text, Call::Record(call))
+        self.record(true, text, start)
     }
 
     pub fn void_hour(&mut self, hour: u64) -> Done
@@ -216,7 +217,7 @@ impl Accounts<'_> {
     }
 
     // A list of calls in numbers, each on what the call before it left, and their answers in numbers: the slices that C lends. 9 and 12 are tested once, since no call leads into 12; where
-    // one of them holds, every call is refused with it.
+    // one of them holds, every call is refused with it. They are lent one by one: a struct of them would need a name for each in each contract.
     pub fn run_on(&mut self, calls: &[u64], text: &[u8], answers: &mut [u64])
         ensures ran { running self.new answers.new ≡ ran_all self.old.sheet.now calls.now text.now (running self.old answers.old) (turns_of (length calls.now) (length answers.old)) }
         ensures same { Same self.old self.new }
@@ -239,7 +240,7 @@ fn turns(calls: usize, answers: usize) -> usize
     (calls / 8).min(answers / 4)
 }
 
-// The four numbers of answer i, where there are places for them.
+// The four numbers of answer i, where there are places for them: group i of the list of numbers that C lends.
 fn store_answer(answers: &mut [u64], i: usize, done: Done)
     ensures { answers.new ≡ stored_answer answers.old i done.answer done.place }
 {

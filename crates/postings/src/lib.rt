@@ -92,8 +92,8 @@ fn difference(new: i64, old: i64) -> i64
     new - old
 }
 
-// The five postings of the unit of place k, from a place of the list on: each amount's new value less its old one. The whole list is lent, so that the
-// contract says what stands in all of it.
+// The five postings of the unit of place k, from a place of the list on: each amount's new value less its old one. The whole list is lent, since no
+// library has a heap, and the contract says what stands in all of it.
 fn post_unit(list: &mut [Posting], at: usize, hour: u64, k: usize, old: &Amounts, new: &Amounts)
     requires room { (at + items ≤ length list.old) × (k < places) }
     requires within { ItemsWithin old.now × ItemsWithin new.now }

@@ -44,7 +44,7 @@ struct UnitHour<'a> {
 }
 
 impl UnitHour<'_> {
-    // What availability is paid by.
+    // What availability is paid by: two of the rates, whose ranges it needs, so that it is no `From` of them.
     fn availability(&self) -> AvailabilityRate
         ensures { (result.cpf ≡ self.now.rates.cpf) × (result.bar ≡ self.now.rates.bar) }
     {

@@ -19,7 +19,7 @@ pub enum TextFault {
 }
 
 impl TextFault {
-    // Document 01's number.
+    // Document 01's number. `u64::from` would not say which number it is, here and of the refusals above.
     pub fn number(self) -> u64
         ensures { result ≡ fault_number self }
     {
@@ -39,7 +39,7 @@ pub struct Part {
     pub end: usize,
 }
 
-// One kind of line. A key or a word ends at its '='. The least and the most number of each part stand in a list each: four pairs
+// One kind of line, of one shape for all: an enum of words and numbers would have the key in each arm. A key or a word ends at its '='. The least and the most number of each part stand in a list each: four pairs
 // would be written in every row and read by the same place, and are no plainer.
 #[derive(Clone, Copy)]
 pub struct Row {
