@@ -1,7 +1,7 @@
 -- A day on the way to its end: the calls that are left lead from the accounts to the end of the day, and neither 9 nor 12 refuses the next one, since the sheet
 -- passes 9 and from the empty book on 12 never comes up.
 -- Assumes nothing.
-use mathlib.Core.Path.{◌≡◌, refl, sym, ap, ◌∙◌, subst}
+use mathlib.Core.Path.{◌≡◌, sym, ap, ◌∙◌}
 use mathlib.Core.Bool.{true}
 use mathlib.Core.List.{List, []}
 use Prim.Native.Nat.{ℕ, suc}
@@ -9,24 +9,19 @@ use lib.ListN.{replicate}
 use Rattle.std.specs.Prelude.{Ok, Some}
 use Rattle.sheet.specs.declared.Sheet.{Sheet}
 use Rattle.sheet.specs.Ranges.{sheet_holds}
-use Rattle.state.specs.declared.Book.{Book}
 use Rattle.state.specs.Book.{empty_book}
 use Rattle.state.proofs.Empty.{empty_sized}
-use Rattle.postings.specs.declared.Posting.{Posting}
 use Rattle.postings.specs.Journal.{no_posting}
 use Rattle.ledger.specs.Calls.{ran_from}
 use Rattle.ledger.specs.Requests.{call_for}
 use Rattle.ledger.proofs.Promise.{promise}
-use Rattle.decisions.specs.Calls.{decoded, call_of}
-use Rattle.decisions.proofs.Calls.{decoded_is}
 use Rattle.engine.specs.declared.Done.{Done}
 use Rattle.engine.specs.Journal.{Performed, performed}
 use Rattle.journal.specs.declared.Accounts.{Accounts}
 use Rattle.journal.specs.Accounts.{passes, Known, Performs}
 use Rattle.journal.proofs.Turning.{known_next}
-use Rattle.account.specs.declared.Due.{Due}
-use Rattle.account.specs.declared.Day.{Day}
-use Rattle.account.specs.Day.{Pending, due_at, day_with, answered_by, day_after, Running, performed_in, turned, ran_to, most_calls, begun, day_from}
+use Rattle.day_calls.specs.declared.Step.{Step}
+use Rattle.account.specs.Day.{Pending, due_at, day_with, answered_by, day_after, Running, turned, ran_to, most_calls, begun, day_from}
 use Rattle.account.proofs.Turned.{NoneDue, ran_next, ran_end}
 
 -- the day on these accounts, with what is due
@@ -64,7 +59,7 @@ module _ (sheet : Sheet) (text : List ℕ) (at : ℕ) where
     under_out none = sym (ap (λ (k : ℕ). (ran_to sheet text k (run_of a due)).day) none) ∙ u.ahead
 
     -- the call that is due is carried out
-    module _ (x : Due) (a' : Accounts) (r : Done) (p : Performs a (call_for text x.asked) a' r) (due' : Pending) (after : due' ≡ answered_by text x.after r.place r.answer) where
+    module _ (x : Step) (a' : Accounts) (r : Done) (p : Performs a (call_for text x.asked) a' r) (due' : Pending) (after : due' ≡ answered_by text x.after r.place r.answer) where
       turned_run : turned sheet text (run_of a due) x ≡ run_of a' due'
       unfolding turned day_after
       turned_run =
