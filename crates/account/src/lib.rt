@@ -69,14 +69,8 @@ fn due_at(text: &[u8], at: usize) -> Result<Option<Step>, DayRefusal>
     ensures { result ≡ due_at text.now at }
 {
     match day_calls::next_at(text, at)? {
-        Some(Next::Take(asked, after)) => Ok(Some(Step {
-            asked: asked,
-            after: after,
-        })),
-        Some(Next::Settle(asked)) => Ok(Some(Step {
-            asked: asked,
-            after: at,
-        })),
+        Some(Next::Take(asked, after)) => Ok(Some(Step { asked, after })),
+        Some(Next::Settle(asked)) => Ok(Some(Step { asked, after: at })),
         None => Ok(None),
     }
 }
