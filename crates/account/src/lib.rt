@@ -44,7 +44,7 @@ impl From<Refusal> for DayRefusal {
 }
 
 impl DayRefusal {
-    // Document 01's number.
+    // Document 01's number, as of the two refusals that it is made of.
     pub fn number(self) -> u64
         ensures { result ≡ day_number self }
     {
@@ -162,7 +162,7 @@ fn put_statement(out: &mut Writer, text: &[u8])
     }
 }
 
-// The statement of a day's text, written from the start of the buffer on as far as it has room; gives how many bytes are written. A buffer
+// The statement of a day's text, written from the start of the buffer on as far as it has room; gives how many bytes are written: C lends the buffer. A buffer
 // of 32,256 bytes has room for every statement.
 #[tactic(auto, using(decimal::proofs::Filled::written_filled))]
 pub fn statement_of(text: &[u8], out: &mut [u8]) -> usize

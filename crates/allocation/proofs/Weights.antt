@@ -19,12 +19,11 @@ use Rattle.energy.specs.Energy.{hub_of}
 use Rattle.energy.proofs.Laws.{hub_le, hub_mono, hub_add, hub_sum}
 use Rattle.units.specs.Units.{bit, member_at, members}
 use Rattle.units.proofs.Laws.{count_members, count_positive, place_one, place_zero}
-use Rattle.offer.specs.Offer.{offer_holds}
 use Rattle.apportion.specs.Shares.{sum_of, Fits}
 use Rattle.apportion.proofs.Laws.{shares_total, share_none, share_within}
 use Rattle.allocation.specs.declared.Plant.{Plant}
 use Rattle.allocation.specs.Fill.{grains_at}
-use Rattle.allocation.specs.Blocks.{Offered}
+use Rattle.allocation.specs.Blocks.{Offered, EachOffered}
 use Rattle.allocation.specs.Allocation.{above, net_energy, plant_energy, unit_at, net_at, gross_at, real_sum, excess, weight_at, excess_shares, ceiling_at, ceilings, ceilings_is, PlantHolds}
 
 by_member : (units k : ℕ) (P : Bool → Type 0) → (member_at units k ≡ true → P true) → (member_at units k ≡ false → P false) → P (member_at units k)
@@ -156,11 +155,11 @@ module _ (plant : Plant) where
           zero_hub = simp t (zero-mul (10000 - plant.loss))
 
       -- for the code: a unit with a ceiling over 0 is in the plant
-      pub offered : Offered plant.unit (ceilings net reverse plant)
+      pub offered : EachOffered plant.unit (ceilings net reverse plant)
       offered u l over = go (member_at plant.units u) refl
         where
           go : (t : Bool) → member_at plant.units u ≡ t
-              → (offer_holds (unit_at plant u).offer ≡ true) × ((unit_at plant u).commitment.0 ≤ 1000000000)
+              → Offered (unit_at plant u)
           go true t = ((h.each u t).offered, omega (arith, (h.each u t).committed))
           go false t = absurd (omega (arith, ceiling_none u l t))
 

@@ -45,8 +45,9 @@ Fillings units ceilings fillings =
     (u : ℕ) → u < 8
     → ((filling_at fillings u).ceiling ≡ get_or ceilings u (record { 0 = 0 })) × HasBlock (get_or units u past_unit) (filling_at fillings u)
 
--- the offer and the commitment of a unit with a ceiling over 0 keep their ranges
-abbrev pub Offered : List PlantUnit → List HubGrains → Type 0
-Offered units ceilings =
-    (u : ℕ) → u < 8 → 0 < grains_at ceilings u
-    → (offer_holds (get_or units u past_unit).offer ≡ true) × ((get_or units u past_unit).commitment.0 ≤ 1000000000)
+-- a unit's offer and its commitment keep their ranges, and those of each unit with a ceiling over 0
+abbrev pub Offered : PlantUnit → Type 0
+Offered u = (offer_holds u.offer ≡ true) × (u.commitment.0 ≤ 1000000000)
+
+abbrev pub EachOffered : List PlantUnit → List HubGrains → Type 0
+EachOffered units ceilings = (u : ℕ) → u < 8 → 0 < grains_at ceilings u → Offered (get_or units u past_unit)

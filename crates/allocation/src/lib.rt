@@ -4,11 +4,9 @@
 ghost use Rattle.std.specs.Prelude.{◌≡◌, true, cond, Option, Some, ℕ, ◌+◌, ◌≤◌, ◌<◌, eqb, ltb, length, get_or};
 ghost use Rattle.finite.specs.Finite.{tabulate};
 ghost use Rattle.energy.specs.Energy.{hub_of};
-ghost use Rattle.offer.specs.Offer.{offer_holds};
-ghost use Rattle.offer.specs.Modified.{IsBlock};
 ghost use Rattle.allocation.specs.Fill.{grains_at, better, best, fill as the_fill};
 ghost use Rattle.allocation.specs.Allocation.{net_at, gross_at, real_sum, plant_energy, ceilings as the_ceilings, prices_of, energies, PlantHolds};
-ghost use Rattle.allocation.specs.Blocks.{priced, filling_at, next_price, has_room, given, HasBlock, Fillings, Offered};
+ghost use Rattle.allocation.specs.Blocks.{priced, filling_at, next_price, has_room, given, HasBlock, Fillings, Offered, EachOffered};
 
 use energy::{Energy, GrossKwh, HubGrains, HubKwh, NetKwh};
 use offer::{Block, ModifiedOffer, Offer};
@@ -30,6 +28,15 @@ pub struct Plant {
     pub loss: u64,
     pub units: u64,
     pub unit: [PlantUnit; 8],
+}
+
+// What a plant delivered and what it drew in an hour, `net` and `reverse`, and what the allocation rests on.
+#[derive(Clone, Copy)]
+pub struct PlantHour<'a> {
+    pub net: NetKwh,
+    pub reverse: NetKwh,
+    pub plant: &'a Plant,
+    ghost in_range: { (net.0 ≤ 8000000) × PlantHolds plant.now },
 }
 
 // A unit in the fill: its ceiling, its energy so far, and its next block if it has room.
@@ -70,24 +77,6 @@ impl PlantUnit {
         }
         self.real.0
     }
-
-    // The block of its grains from i on, if there is room below the limit.
-    fn next_block(&self, i: HubGrains, limit: HubGrains) -> Block
-        requires { i.0 < limit.0 → (offer_holds self.now.offer ≡ true) × (self.now.commitment.0 ≤ 1000000000) }
-        ensures { i.0 < limit.0 → IsBlock self.now.offer self.now.commitment i.0 limit.0 result.price result.end.0 }
-    {
-        if i < limit {
-            let modified = ModifiedOffer {
-                offer: &self.offer,
-                commitment: self.commitment,
-            };
-            return modified.block_at(i, limit);
-        }
-        Block {
-            price: 0,
-            end: limit,
-        }
-    }
 }
 
 // What each unit's share goes by, 0 outside the plant.
@@ -108,29 +97,30 @@ fn with_shares(plant: &Plant, shares: [u64; 8]) -> [HubGrains; 8]
     })
 }
 
-// Each unit's ceiling, 0 outside the plant.
-pub fn ceilings(net: NetKwh, reverse: NetKwh, plant: &Plant) -> [HubGrains; 8]
-    requires { (net.0 ≤ 8000000) × PlantHolds plant.now }
-    ensures { result ≡ the_ceilings net reverse plant.now }
-{
-    let reals = real_sum(plant);
-    let excess = energy::hub_of(net.above(reverse).above(reals), plant.loss);
-    let weights = weights_of(plant, reals);
-    let mut shares = [0u64; 8];
-    apportion::apportion(&weights, excess.0, &mut shares);
-    with_shares(plant, shares)
-}
-
 impl Filling {
     // A unit with so much energy.
     fn of(unit: &PlantUnit, ceiling: HubGrains, energy: HubGrains) -> Filling
-        requires { energy.0 < ceiling.0 → (offer_holds unit.now.offer ≡ true) × (unit.now.commitment.0 ≤ 1000000000) }
+        requires { energy.0 < ceiling.0 → Offered unit.now }
         ensures { (result.ceiling ≡ ceiling) × (result.energy ≡ energy) × HasBlock unit.now result }
     {
+        if energy < ceiling {
+            let modified = ModifiedOffer {
+                offer: &unit.offer,
+                commitment: unit.commitment,
+            };
+            return Filling {
+                ceiling,
+                energy,
+                next: modified.block_at(energy, ceiling),
+            };
+        }
         Filling {
             ceiling,
             energy,
-            next: unit.next_block(energy, ceiling),
+            next: Block {
+                price: 0,
+                end: ceiling,
+            },
         }
     }
 
@@ -143,7 +133,7 @@ impl Filling {
 
 // Each unit before the fill.
 fn unfilled(plant: &Plant, ceilings: [HubGrains; 8]) -> [Filling; 8]
-    requires { Offered plant.now.unit ceilings }
+    requires { EachOffered plant.now.unit ceilings }
     ensures { (length result ≡ 8) × Fillings plant.now.unit ceilings result × ((u : ℕ) → u < 8 → (filling_at result u).energy.0 ≡ 0) }
 {
     let mut fillings = [Filling {
@@ -196,7 +186,7 @@ fn energies_of(fillings: &[Filling; 8]) -> [HubGrains; 8]
 
 // The fill, a block or what is left of the total at a time; then only the unit that was filled gets its next block.
 fn fill(plant: &Plant, ceilings: [HubGrains; 8], total: HubGrains) -> [HubGrains; 8]
-    requires { Offered plant.now.unit ceilings }
+    requires { EachOffered plant.now.unit ceilings }
     ensures { result ≡ the_fill (prices_of plant.now.unit) (grains_at ceilings) 8 total.0 }
 {
     let mut fillings = unfilled(plant, ceilings);
@@ -214,12 +204,25 @@ fn fill(plant: &Plant, ceilings: [HubGrains; 8], total: HubGrains) -> [HubGrains
     energies_of(&fillings)
 }
 
-// Each unit's energy: the plant's net hub energy filled by rising price, each unit to its ceiling.
-pub fn allocate(net: NetKwh, reverse: NetKwh, plant: &Plant) -> [HubGrains; 8]
-    requires { (net.0 ≤ 8000000) × PlantHolds plant.now }
-    ensures { result ≡ energies net reverse plant.now }
-{
-    let limits = ceilings(net, reverse, plant);
-    let total = plant_energy(net, reverse, plant.loss);
-    fill(plant, limits, total)
+impl PlantHour<'_> {
+    // Each unit's ceiling, 0 outside the plant.
+    pub fn ceilings(&self) -> [HubGrains; 8]
+        ensures { result ≡ the_ceilings self.now.net self.now.reverse self.now.plant.now }
+    {
+        let reals = real_sum(self.plant);
+        let excess = energy::hub_of(self.net.above(self.reverse).above(reals), self.plant.loss);
+        let weights = weights_of(self.plant, reals);
+        let mut shares = [0u64; 8];
+        apportion::apportion(&weights, excess.0, &mut shares);
+        with_shares(self.plant, shares)
+    }
+
+    // Each unit's energy: the plant's net hub energy filled by rising price, each unit to its ceiling.
+    pub fn allocate(&self) -> [HubGrains; 8]
+        ensures { result ≡ energies self.now.net self.now.reverse self.now.plant.now }
+    {
+        let limits = self.ceilings();
+        let total = plant_energy(self.net, self.reverse, self.plant.loss);
+        fill(self.plant, limits, total)
+    }
 }

@@ -10,7 +10,8 @@ use record::{Span, UnitRecord};
 use std::array;
 use text::Line;
 
-// The number of line k, or what blank means there.
+// The number of line k, or what blank means there. List and place go together, here and below: a list may end before the place, and a line that it
+// has no room for is blank. A line by itself, or none, is no plainer.
 pub fn value_or(kept: &[Line], k: usize, blank: u64) -> u64
     ensures { result ≡ value_or blank (line_in kept.now k) }
 {
@@ -64,7 +65,7 @@ fn spans_by(kept: &[Line], k: usize) -> usize
     }
 }
 
-// Block j of the units, for a unit of that monthly practical power.
+// Block j of the units, for a unit of that monthly practical power. The block is named by its number, which is no place in the list.
 fn unit_by(kept: &[Line], j: usize, monthly: GrossKwh) -> UnitRecord
     requires { j ≤ 8 }
     ensures { result ≡ unit_by (line_in kept.now) j monthly }
@@ -85,7 +86,7 @@ fn unit_by(kept: &[Line], j: usize, monthly: GrossKwh) -> UnitRecord
     }
 }
 
-// The unit of place k.
+// The unit of place k of the plant.
 pub fn place_by(kept: &[Line], units: u64, monthly: [GrossKwh; 8], k: usize) -> UnitRecord
     requires { k < 8 }
     ensures { result ≡ place_by (line_in kept.now) units monthly k }

@@ -3,19 +3,16 @@
 
 use std::io::{BufWriter, Write};
 use std::rt::Files;
-use std::{env, fs, io};
+use std::{env, io};
 
 fn file_of<R: Files + Eprint + Alloc, W: Write>(rt: &R, out: &mut W, name: &str) -> io::Result<()> {
-    let mut file = match fs::open(rt, name) {
-        Ok(file) => file,
-        Err(error) => return eprintln!(rt; "{name}: {error}"),
+    let mut room = vec![in rt.alloc(); 0u8; 70000]?;
+    let Some(text) = file_bytes::read_or_tell(rt, name, &mut room)? else {
+        return Ok(());
     };
-    let mut text = vec![in rt.alloc(); 0u8; 70000]?;
-    let (size, _error) = file_bytes::read_full(&mut file, &mut text);
-    text.truncate(size);
     writeln!(out, "{name}")?;
     let mut bytes = vec![in rt.alloc(); 0u8; 400000]?;
-    let n = daybook::replay_of(&text, &mut bytes);
+    let n = daybook::replay_of(text, &mut bytes);
     bytes.truncate(n);
     out.write_all(&bytes)
 }

@@ -95,7 +95,7 @@ fn counted_parts(d: Deviations, repaired: bool) -> [u64; KINDS]
     array::from_fn(|j| KIND_WEIGHTS[j].in_q(d.kwh[j], repaired))
 }
 
-// The counted deviation q.
+// The counted deviation q. `repair` is the record's number, here and of W: a record may hold any.
 pub fn counted_deviation(d: Deviations, repair: u64) -> NetKwh
     requires { (counted_deviation d repair).0 < 2 ^ 64 }
     ensures { result ≡ counted_deviation d repair }

@@ -12,13 +12,16 @@ use ledger::{Effect, Refusal};
 use sheet::Sheet;
 use state::Book;
 
-// What the commitment of an entry, that of hour j / 8 and place j % 8, may not exceed.
+// What the commitment of an entry, that of hour j / 8 and place j % 8, may not exceed; the tested call has its entry in one number.
 fn limit_in(sheet: &Sheet, j: usize) -> HubKwh
     requires { j < entries }
     ensures { result ≡ limit_at sheet.now (j / places) (j % places) }
 {
     let k = j % 8;
-    state::limit_of(units::member_at(sheet.units, k), &sheet.unit[k].offers[j / 8])
+    state::limit_of(
+        units::member_at(sheet.units, k),
+        &sheet.unit[k].offers[j / 8],
+    )
 }
 
 // A take, release or move: it is tested, and where it is accepted what is given goes off one commitment and what comes is added to the other.

@@ -22,7 +22,7 @@ pub struct Step {
     pub after: usize,
 }
 
-// How many calls were stored; and how the list ends, at the text's end or with the fault of the line that is no call.
+// How many calls were stored in the list that was lent, which may have room for more; and how the list ends, at the text's end or with the fault of the line that is no call.
 // None where calls are left.
 #[derive(Clone, Copy)]
 pub struct Listed {
@@ -45,7 +45,7 @@ fn take_row() -> Row
     }
 }
 
-// The take of a line's numbers.
+// The take of a line's numbers, in the form that the list of calls in numbers has, as C would give it.
 fn take_asked(line: &Line) -> Asked
     ensures { result ≡ taken line.now }
 {
@@ -61,7 +61,7 @@ fn take_asked(line: &Line) -> Asked
     }
 }
 
-// The settle of the record that begins at a place.
+// The settle of the record that begins at a place, in the same form.
 fn settle_at(text: &[u8], at: usize) -> Asked
     ensures { result ≡ settle_asked text.now at }
 {
@@ -77,7 +77,8 @@ fn settle_at(text: &[u8], at: usize) -> Asked
     }
 }
 
-// What comes at a place of the text: a call, or none at its end.
+// What comes at a place of the text: a call, or none at its end. The two keys are tested in turn, as each ends in its own way: a take's line is
+// read here, a record's by those who settle it.
 pub fn next_at(text: &[u8], at: usize) -> Result<Option<Next>, TextFault>
     ensures { result ≡ next_at text.now at }
 {
@@ -136,16 +137,14 @@ fn ended_by(step: Result<Option<Step>, TextFault>) -> Result<(), TextFault>
     }
 }
 
-// The eight numbers of call i.
+// The eight numbers of call i: the list is lent, as include/gozalvek.h has it.
 fn store_call(calls: &mut [u64], i: usize, a: Asked)
     requires { i < length calls.old / call_numbers }
     ensures { calls.new ≡ stored_at calls.old i a }
 {
     let number = [a.kind, a.hour, a.unit, a.to, a.kwh, a.begin, a.end, a.start];
     let at = 8 * i;
-    for k in 0..8 {
-        calls[at + k] = number[k];
-    }
+    calls[at..at + 8].copy_from_slice(&number);
 }
 
 // The calls of a text from a place on, in numbers, and the ending. A list with a place for every six bytes of the text has places for all of them.

@@ -15,7 +15,8 @@ use journal::Accounts;
 use lines::TextRefusal;
 use sheet::Sheet;
 
-// A run: the text, the accounts, and the place of the next line in the text.
+// A run: the text, the accounts, and the place of the next line in the text. A record's place counts from the text's first byte, so that the text is
+// kept whole.
 #[derive(Drop)]
 struct Replay<'a> {
     text: &'a [u8],
@@ -108,7 +109,7 @@ impl Replay<'_> {
 }
 
 // The calls behind the sheet, on the empty book, over a list of 2,000 places of its own.
-fn put_day(out: &mut Writer, sheet: &Sheet, text: &[u8], from: usize)
+fn put_day<'x>(out: &mut Writer, sheet: &'x Sheet, text: &'x [u8], from: usize)
     ensures { Wrote out.old out.new (call_lines sheet.now text.now (begun from) (extent_of text.now from)) }
 {
     let mut list = [postings::no_posting(); 2000];
@@ -137,7 +138,8 @@ fn put_replay(out: &mut Writer, text: &[u8])
     }
 }
 
-// What `replay` prints for a text, as far as `out` has places; the place behind it.
+// What `replay` prints for a text, as far as `out` has places; the place behind it. The buffer is lent, as that of `account::statement_of`: no library
+// has a heap.
 pub fn replay_of(text: &[u8], out: &mut [u8]) -> usize
     ensures result_after { output out.new result ≡ written (output out.old 0) (replayed text.now) }
     ensures upper_bound { result ≤ length out.new }

@@ -73,7 +73,7 @@ pub struct HourChange {
     pub result: HourResult,
 }
 
-// Group i of a list of calls in numbers, eight for each; past the last whole group none is asked for.
+// Group i of a list of calls in numbers, eight for each; past the last whole group none is asked for. The list is one of numbers, since C gives it so.
 #[tactic(auto, unfolding(ledger::specs::Requests::asked_at))]
 pub fn asked_at(calls: &[u64], i: usize) -> Asked
     ensures { result ≡ asked_at calls.now i }
@@ -94,6 +94,7 @@ pub fn asked_at(calls: &[u64], i: usize) -> Asked
     }
 }
 
+// A take, release or move of a call's numbers: the kind is no field of them, so that no `From` of one value makes the call.
 fn commitment_call(kind: CommitmentKind, asked: Asked) -> Call
     ensures { result ≡ commitment_call kind asked }
 {
@@ -106,6 +107,7 @@ fn commitment_call(kind: CommitmentKind, asked: Asked) -> Call
     })
 }
 
+// A settle or a restate likewise.
 fn record_call(again: bool, asked: Asked) -> Call
     ensures { result ≡ record_call again asked }
 {
@@ -136,7 +138,7 @@ impl From<Asked> for Call {
     }
 }
 
-// The text place of a call that is refused: where its record starts in its part of the text, 0 without one.
+// The text place of a call that is refused: where its record starts in its part of the text, 0 without one, since C gives every answer a place.
 pub fn start_of(call: Call) -> u64
     ensures { result ≡ call_start call }
 {
@@ -188,7 +190,7 @@ impl CommitmentChange {
 fn hour_bad(hour: u64) -> bool
     ensures { result ≡ bad_hour hour }
 {
-    hour < 1 || 24 < hour
+    !(1..=24).contains(&hour)
 }
 
 fn units_unknown(units: u64, from: u64, to: u64) -> bool
@@ -316,7 +318,7 @@ fn standing(again: bool) -> Refusal
 fn stands_otherwise(again: bool, settled: bool) -> bool
     ensures { result ≡ (standing_row again settled).holds }
 {
-    if again { !settled } else { settled }
+    again != settled
 }
 
 // A settle or a restate (`again`) of a record that was read: 31, 40 or 41, 32 33 42.
@@ -372,7 +374,8 @@ pub fn part_of(text: &[u8], begin: u64, end: u64) -> &[u8]
     &text[first as usize..last as usize]
 }
 
-// An answer and its text place in four numbers: the refusal's number or 0, its line, how many postings were appended, the text place.
+// An answer and its text place in four numbers, as C is given them: the refusal's number or 0, its line, how many postings were appended, the text
+// place. Two values make them, so it is no `From`.
 pub fn reply_of(answer: Result<Effect, Refusal>, place: u64) -> [u64; 4]
     ensures { result ≡ number_of answer ∷ line_of answer ∷ posted_of answer ∷ place ∷ [] }
 {

@@ -21,6 +21,8 @@ pub struct Done {
     pub count: u64,
 }
 
+// The list and the count come apart, as the accounts of a day have them: a struct of both would have to say in each contract that it still holds the same list.
+
 // An accepted settle, restate or void: what its hour's amounts change is posted, and the hour is stored. A refused one changes nothing, and its text place is
 // `start`.
 fn store_hour(

@@ -128,7 +128,7 @@ pub fn put_stop(out: &mut Writer, refusal: TextRefusal)
     out.put_byte(b'\n');
 }
 
-// The commitment of entry e, that of hour e / 8 and place e % 8, where it is over 0.
+// The commitment of entry e, that of hour e / 8 and place e % 8, where it is over 0. One loop over the entries, as in `listing`.
 #[tactic(auto, using(decimal::proofs::Laws::written_append, decimal::proofs::Laws::written_none), unfolding(crate::specs::Tables::held_line))]
 fn put_commitment(out: &mut Writer, e: usize, held: HubKwh)
     ensures { Wrote out.old out.new (held_line (e / 8) (e % 8) held) }

@@ -60,6 +60,13 @@ module _ (s a b : Span) (a_in : SpanInRange a) (b-in : SpanInRange b) where
   three_spans c c-in (suc (suc zero)) l = c-in
   three_spans c c-in (suc (suc (suc i))) l = absurd (omega arith)
 
+-- a unit of example 12
+pub unit_holds : (u : PlantUnit) (real commitment : ℕ) (o : Offer)
+    → u ≡ record { real = net_kwh real; nominal = record { 0 = 100000 }; commitment = hub commitment; offer = o }
+    → real ≤ 1000000 → commitment ≤ 1000000 → offer_holds o ≡ true → UnitHolds u
+unit_holds u real commitment o e able committed offered =
+    rw e (record { able = able; rated = (omega arith, omega arith); committed = committed; offered = offered })
+
 -- unit 1, 2 and 3 of example 12, and no unit at the other places
 module _ (a b c : PlantUnit) (a-holds : UnitHolds a) (b-holds : UnitHolds b) (c-holds : UnitHolds c) where
   pub three_units : (k : ℕ) → member_at 7 k ≡ true → UnitHolds (get_or (set (set (replicate 8 c) 0 a) 1 b) k past_unit)

@@ -4,12 +4,12 @@
 
 ghost use Rattle.std.specs.Prelude.{◌≡◌, true, ℕ, ◌≤◌, ◌<◌, get_or};
 ghost use Rattle.offer.specs.Offer.{offer_holds};
-ghost use Rattle.allocation.specs.Allocation.{UnitHolds, PlantHolds};
+ghost use Rattle.allocation.specs.Allocation.{PlantHolds};
 ghost use Rattle.record.specs.Empty.{no_span};
 ghost use Rattle.record.specs.InRange.{SpanInRange};
 ghost use Rattle.charge.specs.Test.{counted_deviation, weighted};
 
-use allocation::{Plant, PlantUnit};
+use allocation::{Plant, PlantHour, PlantUnit};
 use energy::{Energy, GrossKwh, HubGrains, HubKwh, NetKwh};
 use formulas::{AvailabilityRate, Declaration, Deviations};
 use offer::{ModifiedOffer, Offer, Step};
@@ -54,8 +54,7 @@ fn two_steps(quantity: u64, price: u64, next_quantity: u64, next_price: u64) -> 
 
 // A unit of example 12.
 fn unit_12(real: u64, commitment: u64, offer: Offer) -> PlantUnit
-    requires { (real ≤ 1000000) × (commitment ≤ 1000000) × (offer_holds offer ≡ true) }
-    ensures { UnitHolds result }
+    ensures { result ≡ record { real = record { 0 = real }; nominal = record { 0 = 100000 }; commitment = record { 0 = commitment }; offer = offer } }
 {
     PlantUnit {
         real: NetKwh(real),
@@ -81,7 +80,12 @@ fn plant_12() -> Plant
 
 // The shares of the three units, in grains.
 fn example_12<W: Write>(out: &mut W) -> io::Result<()> {
-    let energy = allocation::allocate(NetKwh(320000), NetKwh(0), &plant_12());
+    let delivered = PlantHour {
+        net: NetKwh(320000),
+        reverse: NetKwh(0),
+        plant: &plant_12(),
+    };
+    let energy = delivered.allocate();
     say(out, b"12")?;
     say_next(out, energy[0].0)?;
     say_next(out, energy[1].0)?;

@@ -10,7 +10,7 @@ ghost use Rattle.ledger.specs.Total.{item_of, total_on};
 ghost use Rattle.ledger.specs.Requests.{call_for, calls_in};
 ghost use Rattle.ledger.specs.Demand.{Demand};
 ghost use Rattle.engine.specs.Journal.{scanned_in};
-ghost use Rattle.decisions.specs.Calls.{call_of, commitment_of};
+ghost use Rattle.decisions.specs.Calls.{call_of, commitment_of, record_of};
 ghost use Rattle.journal.specs.Accounts.{state_in, passes, tested, Known, Performs, Same};
 ghost use Rattle.journal.specs.Run.{turns_of, stored_answer, replies_in, ran_all, running, start_on};
 
@@ -21,7 +21,7 @@ use postings::Posting;
 use sheet::Sheet;
 use state::Book;
 
-// The accounts of a plant's day. Postings are appended to the lent list from the count on.
+// The accounts of a plant's day. Postings are appended to the lent list from the count on; the places behind it are free, and no library has a heap to grow a list.
 #[derive(Drop)]
 pub struct Accounts<'a> {
     pub sheet: &'a Sheet,
@@ -114,6 +114,8 @@ impl Accounts<'_> {
         self.answer(known, text, call)
     }
 
+    // The document names the calls; each is a thin function that promises its call by name.
+
     // A take, release or move, which has no text.
     fn commit(&mut self, call: CommitmentCall) -> Done
         ensures { Performs self.old (commitment_of call.kind call) self.new result }
@@ -157,12 +159,12 @@ impl Accounts<'_> {
         })
     }
 
-    // The hour record is read from byte `start` of the text on.
-    pub fn settle(&mut self, text: &[u8], start: u64) -> Done
-        ensures { Performs self.old (settle_call text.now start) self.new result }
+    // A settle, or a restate (`again`), of the whole text.
+    fn record(&mut self, again: bool, text: &[u8], start: u64) -> Done
+        ensures { Performs self.old (record_of again text.now start) self.new result }
     {
         let call = RecordCall {
-            again: false,
+            again,
             begin: 0,
             end: text.len() as u64,
             start,
@@ -170,16 +172,17 @@ impl Accounts<'_> {
         self.perform(text, Call::Record(call))
     }
 
+    // The hour record is read from byte `start` of the text on.
+    pub fn settle(&mut self, text: &[u8], start: u64) -> Done
+        ensures { Performs self.old (settle_call text.now start) self.new result }
+    {
+        self.record(false, text, start)
+    }
+
     pub fn restate(&mut self, text: &[u8], start: u64) -> Done
         ensures { Performs self.old (restate_call text.now start) self.new result }
     {
-        let call = RecordCall {
-            again: true,
-            begin: 0,
-            end: text.len() as u64,
-            start,
-        };
-        self.perform(text, Call::Record(call))
+        self.record(true, text, start)
     }
 
     pub fn void_hour(&mut self, hour: u64) -> Done
@@ -213,8 +216,8 @@ impl Accounts<'_> {
         Ok(sum)
     }
 
-    // A list of calls in numbers, each on what the call before it left, and their answers in numbers. 9 and 12 are tested once, since no call leads into 12; where
-    // one of them holds, every call is refused with it.
+    // A list of calls in numbers, each on what the call before it left, and their answers in numbers: the slices that C lends. 9 and 12 are tested once, since no call leads into 12; where
+    // one of them holds, every call is refused with it. They are lent one by one: a struct of them would need a name for each in each contract.
     pub fn run_on(&mut self, calls: &[u64], text: &[u8], answers: &mut [u64])
         ensures ran { running self.new answers.new ≡ ran_all self.old.sheet.now calls.now text.now (running self.old answers.old) (turns_of (length calls.now) (length answers.old)) }
         ensures same { Same self.old self.new }
@@ -237,7 +240,7 @@ fn turns(calls: usize, answers: usize) -> usize
     (calls / 8).min(answers / 4)
 }
 
-// The four numbers of answer i, where there are places for them.
+// The four numbers of answer i, where there are places for them: group i of the list of numbers that C lends.
 fn store_answer(answers: &mut [u64], i: usize, done: Done)
     ensures { answers.new ≡ stored_answer answers.old i done.answer done.place }
 {
@@ -248,7 +251,13 @@ fn store_answer(answers: &mut [u64], i: usize, done: Done)
 }
 
 // A list of calls in numbers on the empty book, from the first place of the list on, with the promise about every list of calls.
-pub fn run(list: &mut [Posting], sheet: &Sheet, calls: &[u64], text: &[u8], answers: &mut [u64]) -> Ran
+pub fn run(
+    list: &mut [Posting],
+    sheet: &Sheet,
+    calls: &[u64],
+    text: &[u8],
+    answers: &mut [u64],
+) -> Ran
     ensures ran { record { list = list.new; answers = answers.new; book = result.book; count = result.count } ≡ ran_all sheet.now calls.now text.now (start_on list.old answers.old 0 empty_book) (turns_of (length calls.now) (length answers.old)) }
     ensures promised { Demand sheet.now list.old (calls_in calls.now text.now (turns_of (length calls.now) (length answers.old))) (replies_in answers.new (turns_of (length calls.now) (length answers.old))) (record { book = result.book; count = result.count; journal = list.new }) }
 {

@@ -55,7 +55,7 @@ impl From<TextRefusal> for Refusal {
 }
 
 impl Refusal {
-    // Document 01's number.
+    // Document 01's number. A refusal has two numbers, this one and the line, so that neither is its `From`.
     pub fn number(self) -> u64
         ensures { result ≡ refusal_number self }
     {
@@ -79,7 +79,7 @@ impl Refusal {
         }
     }
 
-    // The line of a refusal 1 to 4, otherwise 0.
+    // The line of a refusal 1 to 4, otherwise 0: the other number.
     pub fn line(self) -> u64
         ensures { result ≡ refusal_line self }
     {

@@ -109,7 +109,7 @@ pub trait Frame {
     // how many lines the list has to keep, so that they tell the row due
     ghost room: { ℕ };
 
-    // The row due after k lines, by what is kept of them.
+    // The row due after k lines, by what is kept of them. The list is lent and longer than what is read, so that its length is no count of them.
     fn row_at(&self, kept: &[Line], k: usize) -> Row
         requires { room ≤ length kept.now }
         ensures { (lines : List Line) → Kept kept.now lines → k ≡ length lines → result ≡ due self.now lines };

@@ -92,7 +92,8 @@ fn difference(new: i64, old: i64) -> i64
     new - old
 }
 
-// The five postings of the unit of place k, from a place of the list on: each amount's new value less its old one.
+// The five postings of the unit of place k, from a place of the list on: each amount's new value less its old one. The whole list is lent, since no
+// library has a heap, and the contract says what stands in all of it.
 fn post_unit(list: &mut [Posting], at: usize, hour: u64, k: usize, old: &Amounts, new: &Amounts)
     requires room { (at + items ≤ length list.old) × (k < places) }
     requires within { ItemsWithin old.now × ItemsWithin new.now }
@@ -108,7 +109,14 @@ fn post_unit(list: &mut [Posting], at: usize, hour: u64, k: usize, old: &Amounts
 }
 
 // The postings of an hour whose amounts in the book give way to new ones, from a place of the list on: five for each unit of the plant, in order.
-pub fn post_hour(list: &mut [Posting], at: usize, hour: u64, units: u64, book: &Book, new: &[Amounts; 8])
+pub fn post_hour(
+    list: &mut [Posting],
+    at: usize,
+    hour: u64,
+    units: u64,
+    book: &Book,
+    new: &[Amounts; 8],
+)
     requires room { (at + entry_size units ≤ length list.old) × (units < 256) }
     requires hour_in { (1 ≤ hour) × (hour ≤ hours) }
     requires within { AmountsWithin units (hour_amounts book.now (hour - 1)) × AmountsWithin units new.now }

@@ -23,7 +23,7 @@ pub struct Span {
 }
 
 // What an hour record says of a unit; a unit without a reading is not measured.
-// `repair` stays a number: the formulas multiply by 1 - repair, and a record may hold any.
+// `repair` stays a number: a record may hold any, and a bool would ask more of those who make one.
 // The spans are the first `spans` of a fixed array: the libraries use no heap, and a record is copied.
 #[derive(Clone, Copy)]
 pub struct UnitRecord {
@@ -90,7 +90,8 @@ pub fn no_record() -> Record
     }
 }
 
-// The kind that a span counts as: kinds 2 and 3 count as 7 under an environmental cause, and as 5 under frequency control.
+// The kind that a span counts as: kinds 2 and 3 count as 7 under an environmental cause, and as 5 under frequency control. A number as in a span, of
+// which a record may hold any.
 #[tactic(auto, unfolding(crate::specs::Spans::counted_kind))]
 pub fn counted_kind(span: Span) -> u64
     ensures { result ≡ counted_kind span }

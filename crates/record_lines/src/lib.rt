@@ -36,7 +36,7 @@ fn spans_row() -> Row
     }
 }
 
-// Line k of a unit's block, from 0.
+// Line k of a unit's block, from 0; a match as the head is.
 fn unit_row(k: usize) -> Row
     requires { k < 9 }
     ensures { result ≡ get_or unit_rows k end_row }
@@ -54,6 +54,7 @@ fn unit_row(k: usize) -> Row
     }
 }
 
+// The end of a record; a sheet's has another word.
 fn end_row() -> Row
     ensures { result ≡ end_row }
 {

@@ -7,7 +7,7 @@ ghost use Rattle.deviation.specs.Deviation.{SplitReady};
 ghost use Rattle.settlement.specs.Hour.{no_amounts, energy_item, availability_item, refund_item, test_item, amounts_of};
 ghost use Rattle.settlement.specs.Ranges.{HourGiven, HourInRange, RatesReady, UnitReady, drawn_by, place_amounts, amounts_by, plant_by, hour_by, proportions_by};
 
-use allocation::{Plant, PlantUnit};
+use allocation::{Plant, PlantHour, PlantUnit};
 use energy::{HubGrains, HubKwh, NetKwh};
 use formulas::{AvailabilityRate, Declaration, Deviations};
 use offer::ModifiedOffer;
@@ -44,7 +44,7 @@ struct UnitHour<'a> {
 }
 
 impl UnitHour<'_> {
-    // What availability is paid by.
+    // What availability is paid by: two of the rates, whose ranges it needs, so that it is no `From` of them.
     fn availability(&self) -> AvailabilityRate
         ensures { (result.cpf ≡ self.now.rates.cpf) × (result.bar ≡ self.now.rates.bar) }
     {
@@ -213,7 +213,12 @@ impl DueHour<'_> {
         ensures { result ≡ hour_by self.now.day.now self.now.hour.now self.now.commitment.now }
     {
         let plant = plant_of(self.day, self.hour, self.commitment);
-        let energy = allocation::allocate(self.hour.net, self.hour.reverse, &plant);
+        let delivered = PlantHour {
+            net: self.hour.net,
+            reverse: self.hour.reverse,
+            plant: &plant,
+        };
+        let energy = delivered.allocate();
         HourResult {
             energy: energy,
             amounts: self.amounts(&energy),

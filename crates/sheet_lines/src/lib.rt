@@ -41,7 +41,7 @@ fn offer_row() -> Row
     }
 }
 
-// Line k of a unit's block, from 0.
+// Line k of a unit's block, from 0; a match as the head is.
 fn unit_row(k: usize) -> Row
     requires { k < 27 }
     ensures { result ≡ get_or unit_rows k end_row }
@@ -54,6 +54,7 @@ fn unit_row(k: usize) -> Row
     }
 }
 
+// The end of a sheet; a record's has another word.
 fn end_row() -> Row
     ensures { result ≡ end_row }
 {
@@ -69,7 +70,8 @@ fn units_read(kept: &[Line]) -> usize
     kept[29].number[0].count_ones() as usize
 }
 
-// The rows of a sheet: the month and the units come from its own lines.
+// The rows of a sheet: the month and the units come from its own lines. A frame of head, blocks and end for both texts would ask for three rows, two
+// lengths and the number of units, and is no plainer than the three arms.
 #[derive(Clone, Copy)]
 struct SheetRows;
 

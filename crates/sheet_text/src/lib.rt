@@ -12,7 +12,7 @@ use sheet::{Sheet, UnitSheet};
 use std::array;
 use text::Line;
 
-// A sheet that was read, and the place after it.
+// A sheet that was read, and the place after it. A generic type for this and for `record_text`'s would not name what was read.
 #[derive(Clone, Copy)]
 pub struct SheetRead {
     pub place: u64,
@@ -32,7 +32,7 @@ fn offer_by(line: &Line) -> Offer
     }
 }
 
-// Block j of the units.
+// Block j of the units, named by its number, which is no place in the list.
 fn unit_by(kept: &[Line; 280], j: usize) -> UnitSheet
     requires { j ≤ 8 }
     ensures { result ≡ unit_by (line_in kept.now) j }
@@ -46,7 +46,7 @@ fn unit_by(kept: &[Line; 280], j: usize) -> UnitSheet
     }
 }
 
-// The unit of place k.
+// The unit of place k of the plant. A record's blocks are other lines, so the two share only `block_of`.
 fn place_by(kept: &[Line; 280], units: u64, k: usize) -> UnitSheet
     requires { k < 8 }
     ensures { result ≡ place_by (line_in kept.now) units k }
@@ -75,7 +75,8 @@ fn sheet_by(kept: &[Line; 280]) -> Sheet
     }
 }
 
-// A sheet from `start` on in a text: the sheet and the place after it, or why the text is refused.
+// A sheet from `start` on in a text: the sheet and the place after it, or why the text is refused. A reader for sheets and records would take the
+// reading of the lines and the making of the value as functions, and is no plainer: each is four calls.
 pub fn read_sheet(text: &[u8], start: u64) -> Result<SheetRead, TextRefusal>
     ensures { told result ≡ read_sheet text.now start }
 {

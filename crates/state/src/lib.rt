@@ -18,7 +18,7 @@ const MOST_ENERGY: HubGrains = HubGrains(80000000000);
 const MOST_AMOUNT: u64 = 100000000000;
 
 // Hour h and place k, which is that of unit k + 1, stand at 8 * h + k. Marks: 0 open, 1 settled; a mark stays a number, since refusal 12
-// tests the marks of any book, and C gives them as numbers.
+// tests the marks of any book, and C gives them as numbers. Four lists stand beside one another, since 12 tests each and C is given each.
 #[derive(Clone, Copy)]
 pub struct Book {
     pub commitment: [HubKwh; 192],
@@ -51,7 +51,8 @@ pub fn no_result() -> HourResult
     }
 }
 
-// The entries of the plant's units in hour h give way to the new ones, by place; all others stay.
+// The entries of the plant's units in hour h give way to the new ones, by place; all others stay. Hours are indices below 24 here: a type of an hour would be
+// made for each call and taken apart in it.
 fn store<T: Copy>(all: &mut [T; 192], h: usize, units: u64, new: &[T; 8])
     requires { h < hours }
     ensures { (none : T) → all.new ≡ stored none h units new.now all.old }

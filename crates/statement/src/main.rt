@@ -2,26 +2,11 @@
 // read as shows that it is.
 #![tactic(auto)]
 
-ghost use Rattle.std.specs.Prelude.{◌≤◌, length};
+use std::io;
 
-use std::io::Write;
-use std::rt::Files;
-use std::{fs, io};
-
-// Reads day.txt as far as the buffer goes, or up to a read that fails, and gives how many bytes were read.
-fn read_day<R: Files>(rt: &R, text: &mut [u8]) -> usize
-    ensures { result ≤ length text.new }
-{
-    match fs::open(rt, "day.txt") {
-        Ok(mut file) => file_bytes::read_full(&mut file, text).0,
-        Err(_) => 0,
-    }
-}
-
+// What this program has in common with `replay` is `print_answer`; the file, the rooms and the answer are its own.
 fn main(rt: HostRuntime) -> io::Result<()> {
     let mut text = vec![in rt.alloc(); 0u8; 65537]?;
-    let size = read_day(&rt, &mut text);
     let mut out = vec![in rt.alloc(); 0u8; 32768]?;
-    let n = account::statement_of(&text[..size], &mut out);
-    io::writer(&rt).write_all(&out[..n])
+    file_bytes::print_answer(&rt, "day.txt", &mut text, &mut out, account::statement_of)
 }

@@ -36,7 +36,7 @@ pub struct HourSheet {
     pub unit: [UnitTerms; 8],
 }
 
-// What is used of a unit's sheet in the hour h, from 0.
+// What is used of a unit's sheet in the hour h, from 0; for an hour, so no `From`, as below.
 fn unit_terms(unit: &UnitSheet, h: usize) -> UnitTerms
     requires { h < 24 }
     ensures { result ≡ unit_terms unit.now h }

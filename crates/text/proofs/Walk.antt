@@ -20,7 +20,7 @@ use Rattle.std.proofs.lemmas.Iterator.{YieldsList-from_slice, IsFirst-from_posit
 use Rattle.text.specs.declared.Part.{Part}
 use Rattle.std.proofs.lemmas.Option.{same_Some, none-some}
 use native.Mathlib.Numerals.{add-one}
-use borrow.Author.Tests.{le-ltb, lt-ltb, ne_eqb, eq-eqb, ltb-true, ltb-false, eqb-true, eqb-false}
+use borrow.Author.Tests.{le-ltb, lt-ltb, ne_eqb, eq-eqb, ltb-true, ltb-false, eqb-true}
 use lib.Dec.{ltb, eqb}
 use lib.ListN.{length, drop, get_or, take, length-drop, drop_of_length-le}
 use lib.Seq.{drop-cons, take_all}

@@ -19,7 +19,7 @@ pub enum TextFault {
 }
 
 impl TextFault {
-    // Document 01's number.
+    // Document 01's number. `u64::from` would not say which number it is, here and of the refusals above.
     pub fn number(self) -> u64
         ensures { result ≡ fault_number self }
     {
@@ -39,7 +39,8 @@ pub struct Part {
     pub end: usize,
 }
 
-// One kind of line. A key or a word ends at its '='.
+// One kind of line, of one shape for all: an enum of words and numbers would have the key in each arm. A key or a word ends at its '='. The least and the most number of each part stand in a list each: four pairs
+// would be written in every row and read by the same place, and are no plainer.
 #[derive(Clone, Copy)]
 pub struct Row {
     pub key: [u8; 10],
@@ -57,7 +58,7 @@ pub struct Row {
     pub high: [u64; 4],
 }
 
-// The numbers of a line, none where its value is blank or a word.
+// The numbers of a line, none where its value is blank or a word. They lie in an array with their count: fixed memory, no heap.
 #[derive(Clone, Copy)]
 pub struct Line {
     pub count: usize,
@@ -137,7 +138,7 @@ pub fn value_of(line: &[u8]) -> &[u8]
     &line[line.len()..]
 }
 
-// Whether a text is the word that stands before a '='.
+// Whether a text is the word that stands before a '='. Only the last line of a text has a word, so this one may look for the '=' first.
 pub fn word_is(text: &[u8], word: [u8; 10]) -> bool
     ensures { result ≡ word_is text.now word }
 {

@@ -1,25 +1,20 @@
--- The numbers passed stand at their places, and all others as they were.
+-- The eight numbers are copied to their places, and all others are as they were.
 -- Assumes nothing.
-use Prim.Native.Nat.{◌*◌}
-use mathlib.Core.Path.{refl}
+use mathlib.Core.Path.{refl, sym, ◌∙◌}
+use mathlib.Core.List.{[], ◌∷◌}
 use native.Mathlib.Omega.{arith}
+use Rattle.std.proofs.lemmas.Slice.{put_mid-paste}
+use Rattle.finite.specs.Finite.{tabulate}
+use Rattle.finite.proofs.Tables.{length_tabulate}
 use Rattle.ledger.specs.Requests.{call_numbers}
-use Rattle.numbers.proofs.Pasted.{pasting_none, pasting_next, pasting_all}
+use Rattle.numbers.proofs.Listed.{own_entries}
 use Rattle.day_calls.specs.DayCalls.{number_of, stored_at}
 use Rattle.day_calls.proofs.store_call.Goals as goal
-
-pub loop-k-init : goal.loop-k-init
-loop-k-init c = pasting_none call_numbers (number_of c.args.a) c.args.calls.now (call_numbers * c.args.i)
-
-pub loop-k-preserved : goal.loop-k-preserved
-loop-k-preserved c =
-    let a = c.args in
-    let l = c.loop-k in
-    pasting_next call_numbers (number_of a.a) a.calls.now (call_numbers * a.i) l.calls l.k _ l.invariant (omega arith) (omega arith) refl
 
 pub returns : goal.returns
 unfolding stored_at
 returns c =
-    let a = c.args in
-    let l = c.loop-k in
-    pasting_all call_numbers (number_of a.a) a.calls.now (call_numbers * a.i) l.calls l.k l.invariant (omega arith)
+    let a = c.args.a in
+    put_mid-paste _ _ _ _ (tabulate call_numbers (number_of a)) call_numbers
+    (c.copy_from_slice.ensures.after ∙ sym (own_entries call_numbers (a.kind ∷ a.hour ∷ a.unit ∷ a.to ∷ a.kwh ∷ a.begin ∷ a.end ∷ a.start ∷ []) 0 refl)) (omega arith)
+    (sym (length_tabulate call_numbers (number_of a)))

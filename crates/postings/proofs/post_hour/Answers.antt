@@ -15,9 +15,11 @@ loop-k-init c = appended_none c.args.list.now c.args.at c.args.hour c.args.units
 pub post_unit-requires-clause-room : goal.post_unit-requires-clause-room
 post_unit-requires-clause-room c =
     let a = c.args in
-    let l = c.loop-k in
-    (appended_room a.list.now a.at a.hour a.units _ a.new.now c.requires.room.0 c.requires.room.1 l.k l.next l.list l.invariant (omega arith)
-    (sym c.member_at.ensures ∙ c.if-member_at.true), omega arith)
+    let l = c.loop-k in (
+      appended_room a.list.now a.at a.hour a.units _ a.new.now c.requires.room.0 c.requires.room.1 l.k l.next l.list l.invariant (omega arith)
+          (sym c.member_at.ensures ∙ c.if-member_at.true),
+      omega arith,
+    )
 
 pub post_unit-requires-clause-within : goal.post_unit-requires-clause-within
 post_unit-requires-clause-within c =

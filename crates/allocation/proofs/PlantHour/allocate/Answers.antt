@@ -5,19 +5,19 @@ use mathlib.Core.List.{List}
 use Rattle.energy.specs.declared.HubGrains.{HubGrains}
 use Rattle.allocation.specs.Fill.{grains_at, fill}
 use Rattle.allocation.specs.Allocation.{ceilings, price_of, energies_is}
-use Rattle.allocation.specs.Blocks.{Offered}
+use Rattle.allocation.specs.Blocks.{EachOffered}
 use Rattle.allocation.proofs.Weights.{offered}
-use Rattle.allocation.proofs.allocate.Goals as goal
+use Rattle.allocation.proofs.PlantHour.allocate.Goals as goal
 
 pub fill-requires : goal.fill-requires
 fill-requires c =
-    let a = c.args in
-    subst (λ (l : List HubGrains). Offered a.plant.now.unit l) (sym c.ceilings-limits.ensures) (offered a.plant.now c.requires.1 a.net a.reverse)
+    let a = c.args.self.now in
+    subst (λ (l : List HubGrains). EachOffered a.plant.now.unit l) (sym c.ceilings-limits.ensures) (offered a.plant.now a.in_range.1 a.net a.reverse)
 
 pub returns : goal.returns
 unfolding price_of
 returns c =
-    let a = c.args in
+    let a = c.args.self.now in
     let plant = a.plant.now in
     let total = c.plant_energy-total in
     let p = price_of plant in
