@@ -7,7 +7,7 @@ use Rattle.std.proofs.lemmas.Slice.{put_mid-paste}
 use Rattle.finite.specs.Finite.{tabulate}
 use Rattle.finite.proofs.Tables.{length_tabulate}
 use Rattle.ledger.specs.Requests.{call_numbers}
-use Rattle.numbers.proofs.Listed.{own_entries}
+use Rattle.day_calls.proofs.Pasted.{own_entries}
 use Rattle.day_calls.specs.DayCalls.{number_of, stored_at}
 use Rattle.day_calls.proofs.store_call.Goals as goal
 

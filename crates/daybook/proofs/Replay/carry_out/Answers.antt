@@ -16,5 +16,5 @@ pub returns-in-Call-clause-printed : goal.returns-in-Call-clause-printed
 returns-in-Call-clause-printed c =
     let a = c.args.self.now in
     rw c.in-Call.is
-    (same_bytes c.args.out.now _ c.put_entry.ensures
+    (same_bytes c.args.out.now c.put_entry.new.out c.put_entry.ensures
     (ap (λ (x : Answer). entry_line a.text.now a.at (answer_text x)) (call_answer a.accounts _ _ _ c.call-done.ensures)))
