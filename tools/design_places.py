@@ -31,6 +31,7 @@ LISTS = """
 gone 1 gives an Option: asks::kind_of
 1 gives 0 for none: decisions::{hour_index,entry_index,start_of} single::first_at
 new 1 no parts stand for a word: text::Row
+new 1 settled, and energies and amounts of 0 where it is not: decisions::HourChange
 no 1 all fields go with any answer: ledger::{Outcome,Decision} single::CallDecision
 no 1 the example's number: examples::energy_example
 no 1 a number that is no code, and a sum: text::Part energy::Energy.of apportion::Division
