@@ -1,7 +1,7 @@
 -- A day on the way to its end: the calls that are left lead from the accounts to the end of the day, and neither 9 nor 12 refuses the next one, since the sheet
 -- passes 9 and from the empty book on 12 never comes up.
 -- Assumes nothing.
-use mathlib.Core.Path.{◌≡◌, refl, sym, ap, ◌∙◌, subst}
+use mathlib.Core.Path.{◌≡◌, sym, ap, ◌∙◌}
 use mathlib.Core.Bool.{true}
 use mathlib.Core.List.{List, []}
 use Prim.Native.Nat.{ℕ, suc}
@@ -9,24 +9,19 @@ use lib.ListN.{replicate}
 use Rattle.std.specs.Prelude.{Ok, Some}
 use Rattle.sheet.specs.declared.Sheet.{Sheet}
 use Rattle.sheet.specs.Ranges.{sheet_holds}
-use Rattle.state.specs.declared.Book.{Book}
 use Rattle.state.specs.Book.{empty_book}
 use Rattle.state.proofs.Empty.{empty_sized}
-use Rattle.postings.specs.declared.Posting.{Posting}
 use Rattle.postings.specs.Journal.{no_posting}
 use Rattle.ledger.specs.Calls.{ran_from}
 use Rattle.ledger.specs.Requests.{call_for}
 use Rattle.ledger.proofs.Promise.{promise}
-use Rattle.decisions.specs.Calls.{decoded, call_of}
-use Rattle.decisions.proofs.Calls.{decoded_is}
 use Rattle.engine.specs.declared.Done.{Done}
 use Rattle.engine.specs.Journal.{Performed, performed}
 use Rattle.journal.specs.declared.Accounts.{Accounts}
 use Rattle.journal.specs.Accounts.{passes, Known, Performs}
 use Rattle.journal.proofs.Turning.{known_next}
 use Rattle.account.specs.declared.Due.{Due}
-use Rattle.account.specs.declared.Day.{Day}
-use Rattle.account.specs.Day.{Pending, due_at, day_with, answered_by, day_after, Running, performed_in, turned, ran_to, most_calls, begun, day_from}
+use Rattle.account.specs.Day.{Pending, due_at, day_with, answered_by, day_after, Running, turned, ran_to, most_calls, begun, day_from}
 use Rattle.account.proofs.Turned.{NoneDue, ran_next, ran_end}
 
 -- the day on these accounts, with what is due

@@ -12,8 +12,8 @@ ghost use Rattle.account.specs.declared.DayRefusal.TheVariants.{Line as not_a_ca
 ghost use Rattle.account.specs.Statement.{day_lines, statement_of};
 
 use day_calls::Next;
-use decisions::Call;
 use decimal::Writer;
+use decisions::Call;
 use journal::Accounts;
 use ledger::{Asked, Effect, Refusal};
 use sheet::Sheet;

@@ -1,14 +1,13 @@
 -- A total changes nothing: no call stands beside it (`left_by_asks`). A take in hour 0 would change nothing either: it is refused under every sheet, book
 -- and count, since the first of 9, 12 and 10 that holds refuses it.
 -- Assumes nothing.
-use Rattle.std.specs.Prelude.{Result, Ok, Err, Bool, true, false, not, ◌&&◌, cond}
+use Rattle.std.specs.Prelude.{Err, Bool, true, false, cond}
 use mathlib.Core.Path.{◌≡◌, refl}
 use mathlib.Core.List.{List}
 use Prim.Native.Nat.{ℕ}
 use Rattle.sheet.specs.declared.Sheet.{Sheet}
 use Rattle.state.specs.declared.Book.{Book}
 use Rattle.postings.specs.declared.Posting.{Posting}
-use Rattle.ledger.specs.declared.Refusal.{Refusal}
 use Rattle.ledger.specs.declared.Refusal.TheVariants.{SheetRange, BookRange, HourRange}
 use Rattle.ledger.specs.Calls.{Decision, by_verdict, refused_with, verdict, decided, request_rows}
 use Rattle.ledger.specs.Ledger.{take}

@@ -109,7 +109,6 @@ impl Replay<'_> {
 }
 
 // The calls behind the sheet, on the empty book, over a list of 2,000 places of its own.
-#[tactic(auto, unfolding(crate::specs::Replay::own_list))]
 fn put_day<'x>(out: &mut Writer, sheet: &'x Sheet, text: &'x [u8], from: usize)
     ensures { Wrote out.old out.new (call_lines sheet.now text.now (begun from) (extent_of text.now from)) }
 {

@@ -1,5 +1,7 @@
 -- Each turn of the loop is one call, carried out on what the calls so far left: the laws are in proofs/Underway.antt.
 -- Assumes nothing.
+use lib.ListN.{replicate}
+use Rattle.postings.specs.declared.Posting.{Posting}
 use Rattle.std.proofs.Common.{rules, ◌≡◌, refl, ap, ◌∙◌, arith}
 use Rattle.std.specs.Prelude.{Ok, Some}
 use Rattle.decisions.specs.Calls.{call_of}
@@ -12,7 +14,7 @@ use Rattle.account.proofs.day_of.Goals as goal
 pub loop-init : goal.loop-init
 loop-init c =
     let a = c.args in
-    under_first a.sheet.now a.text.now a.at c.requires _ _ _ (omega arith) refl c.empty_book.ensures refl (search rules) c.due_at-due.ensures
+    under_first a.sheet.now a.text.now a.at c.requires _ _ _ (omega arith) refl c.empty_book.ensures refl (ap (λ (x : Posting). replicate 2000 x) c.no_posting-list.ensures) c.due_at-due.ensures
 
 pub answer-done-requires : goal.answer-done-requires
 answer-done-requires c = c.loop.invariant.known

@@ -1,6 +1,6 @@
 -- A call leaves what it leaves of the course, and a total leaves it as it is.
 -- Assumes nothing.
-use Rattle.std.proofs.Common.{rules, refl, ap, ◌∙◌}
+use Rattle.std.proofs.Common.{refl, ap}
 use Rattle.ledger.specs.Answers.{Answer}
 use Rattle.entries.specs.Entries.{answer_text, entry_line}
 use Rattle.daybook.proofs.Steps.{same_bytes, call_left, call_answer}

@@ -1,6 +1,6 @@
 -- One total more at a time, behind the other tables.
 -- Assumes nothing.
-use Rattle.std.proofs.Common.{rules, ◌≡◌, refl, sym, ap, ◌∙◌, ℕ, arith}
+use Rattle.std.proofs.Common.{◌≡◌, refl, sym, ap, ◌∙◌, ℕ, arith}
 use Rattle.decimal.specs.Output.{written}
 use Rattle.decimal.specs.Writer.{held}
 use Rattle.decimal.proofs.Laws.{then}

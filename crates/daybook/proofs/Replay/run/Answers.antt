@@ -1,6 +1,6 @@
 -- One line more at a time.
 -- Assumes nothing.
-use Rattle.std.proofs.Common.{rules, refl, sym, ap, ◌∙◌}
+use Rattle.std.proofs.Common.{refl, sym}
 use Rattle.listing.proofs.Joined.{none_joined, joined_more}
 use Rattle.daybook.specs.Replay.{course, stepped, step_line, steps, nth_line}
 use Rattle.daybook.proofs.Steps.{same_bytes, goes_on, same_line, next_steps}
