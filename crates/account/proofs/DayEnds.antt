@@ -31,7 +31,7 @@ use Rattle.ledger.specs.declared.Refusal.TheVariants.{Text, SheetRange, BookRang
 use Rattle.ledger.specs.Calls.{Row, row, verdict, is_settled, always_rows, book_fits, text_rows, record_rows, request_rows, rows_of, accepted_in, recorded_at, place_after as place_behind, by_verdict, refused_with, decided, plain_request, record_request, Decision}
 use Rattle.ledger.specs.Requests.{call_for, part_of}
 use Rattle.engine.specs.Journal.{performed}
-use Rattle.account.specs.declared.Due.{Due}
+use Rattle.day_calls.specs.declared.Step.{Step}
 use Rattle.account.specs.declared.DayRefusal.{DayRefusal}
 use Rattle.day_calls.specs.declared.Next.TheVariants.{Settle}
 use Rattle.day_calls.specs.DayCalls.{take_row, take_asked, settle_asked, take_of, next_at, Coming}
@@ -42,8 +42,8 @@ use Rattle.account.proofs.Turned.{NoneDue}
 data Lasts (text : List ℕ) (left : ℕ) : Pending → Type 0 where
   ended : Lasts text left (Ok None)
   refused : (e : DayRefusal) → Lasts text left (Err e)
-  take_due : (x : Due) (hour unit kwh : ℕ) → x.asked ≡ take_asked hour unit kwh → 0 < left → length text < x.after + left → Lasts text left (Ok (Some x))
-  settle_due : (x : Due) (at : ℕ) → x.asked ≡ settle_asked text at → 0 < left → length text ≤ at + left → Lasts text left (Ok (Some x))
+  take_due : (x : Step) (hour unit kwh : ℕ) → x.asked ≡ take_asked hour unit kwh → 0 < left → length text < x.after + left → Lasts text left (Ok (Some x))
+  settle_due : (x : Step) (at : ℕ) → x.asked ≡ settle_asked text at → 0 < left → length text ≤ at + left → Lasts text left (Ok (Some x))
 
 take_lasts : (text : List ℕ) (at left after : ℕ) (r : Result Line TextFault) → 0 < left → length text < after + left
     → Lasts text left (due_with at (take_of r after))
@@ -134,7 +134,7 @@ module _ (s : Sheet) (b : Book) (text : List ℕ) (at count places : ℕ) (poste
       by (Err x) e = unread x (not (sheet_holds s)) (not (book_fits s b count places posted))
 
 -- after a call that was due nothing is due, or another call for which the count has bytes left
-answered_lasts : (text : List ℕ) (left : ℕ) (x : Due) (place : ℕ) (a : Answer) → Lasts text left (Ok (Some x))
+answered_lasts : (text : List ℕ) (left : ℕ) (x : Step) (place : ℕ) (a : Answer) → Lasts text left (Ok (Some x))
     → ((hour unit kwh : ℕ) → x.asked ≡ take_asked hour unit kwh → (n : ℕ) → a ≡ Ok (Posted n) → ⊥)
     → ((at : ℕ) → x.asked ≡ settle_asked text at → (a ≡ Ok Committed → ⊥) × ((n : ℕ) → a ≡ Ok (Posted n) → at < place))
     → Lasts text (left - 1) (answered_by text x.after place a)
@@ -147,13 +147,13 @@ answered_lasts text left x place (Ok (Posted n)) (settle_due _ at e l enough) ta
     due_lasts text place left (omega arith)
 
 module _ (sheet : Sheet) (text : List ℕ) where
-  take_told : (r : Running) (x : Due) (hour unit kwh : ℕ) → x.asked ≡ take_asked hour unit kwh → (n : ℕ) → (performed_in sheet text r x).outcome.answer ≡ Ok (Posted n) → ⊥
+  take_told : (r : Running) (x : Step) (hour unit kwh : ℕ) → x.asked ≡ take_asked hour unit kwh → (n : ℕ) → (performed_in sheet text r x).outcome.answer ≡ Ok (Posted n) → ⊥
   unfolding performed call_for
   take_told r x hour unit kwh e n h =
       take_answer sheet r.day.book hour unit kwh r.day.count _ _ n
       (subst (λ (a : Asked). (performed r.list r.day.count sheet r.day.book (call_for text a)).outcome.answer ≡ Ok (Posted n)) e h)
 
-  settle_told : (r : Running) (x : Due) (at : ℕ) → x.asked ≡ settle_asked text at
+  settle_told : (r : Running) (x : Step) (at : ℕ) → x.asked ≡ settle_asked text at
       → let o = (performed_in sheet text r x).outcome in
       (o.answer ≡ Ok Committed → ⊥) × ((n : ℕ) → o.answer ≡ Ok (Posted n) → at < o.place)
   unfolding performed call_for
@@ -164,7 +164,7 @@ module _ (sheet : Sheet) (text : List ℕ) where
         settle_place sheet r.day.book (part_of text 0 (length text)) at r.day.count _ _,
       )
 
-  turn_lasts : (r : Running) (x : Due) (left : ℕ) → Lasts text left (Ok (Some x)) → Lasts text (left - 1) (turned sheet text r x).day.due
+  turn_lasts : (r : Running) (x : Step) (left : ℕ) → Lasts text left (Ok (Some x)) → Lasts text (left - 1) (turned sheet text r x).day.due
   unfolding turned day_after
   turn_lasts r x left lasts =
       let o = (performed_in sheet text r x).outcome in
@@ -178,7 +178,7 @@ module _ (sheet : Sheet) (text : List ℕ) where
   no_more (Ok (Some y)) (settle_due _ at e l enough) x f = absurd (omega arith)
 
   by_due : (left : ℕ) (r : Running) (p : Pending) → r.day.due ≡ p → Lasts text left p
-      → ((x : Due) → Lasts text (left - 1) (turned sheet text r x).day.due → NoneDue (ran_to sheet text left (turned sheet text r x)).day.due)
+      → ((x : Step) → Lasts text (left - 1) (turned sheet text r x).day.due → NoneDue (ran_to sheet text left (turned sheet text r x)).day.due)
       → NoneDue (ran_by sheet text (ran_to sheet text left) r p).day.due
   by_due left r (Ok (Some x)) e l next = next x (turn_lasts r x left l)
   by_due left r (Ok None) e l next = λ x f. let same = sym e ∙ f in absurd (let z : ◌≡◌ {A = ℕ} 0 1 = cc in omega arith)

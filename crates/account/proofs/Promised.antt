@@ -13,16 +13,16 @@ use Rattle.ledger.specs.Calls.{State, carried_out, request_of, ran_from, begun a
 use Rattle.ledger.specs.Demand.{Demand}
 use Rattle.ledger.proofs.Promise.{promise}
 use Rattle.engine.specs.Journal.{performed}
-use Rattle.account.specs.declared.Due.{Due}
+use Rattle.day_calls.specs.declared.Step.{Step}
 use Rattle.account.specs.Day.{Pending, day_after, Running, turned, ran_by, ran_to, ran_out, calls_by, calls_to, most_calls, state_of, begun, day_calls}
 
 module _ (sheet : Sheet) (text : List ℕ) where
-  pub turn_state : (r : Running) (x : Due) → state_of (turned sheet text r x) ≡ (carried_out sheet (state_of r) (request_of sheet (call_for text x.asked))).state
+  pub turn_state : (r : Running) (x : Step) → state_of (turned sheet text r x) ≡ (carried_out sheet (state_of r) (request_of sheet (call_for text x.asked))).state
   unfolding turned day_after performed carried_out
   turn_state r x = refl
 
   by_due : (k : ℕ) (r : Running) (p : Pending)
-      → ((x : Due) → state_of (ran_to sheet text k (turned sheet text r x)) ≡ (ran_from sheet (state_of (turned sheet text r x)) (calls_to sheet text k (turned sheet text r x))).state)
+      → ((x : Step) → state_of (ran_to sheet text k (turned sheet text r x)) ≡ (ran_from sheet (state_of (turned sheet text r x)) (calls_to sheet text k (turned sheet text r x))).state)
       → state_of (ran_by sheet text (ran_to sheet text k) r p) ≡ (ran_from sheet (state_of r) (calls_by sheet text (calls_to sheet text k) r p)).state
   unfolding ran_from
   by_due k r (Ok (Some x)) next = next x ∙ ap (λ (st : State). (ran_from sheet st (calls_to sheet text k (turned sheet text r x))).state) (turn_state r x)

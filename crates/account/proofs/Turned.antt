@@ -6,15 +6,15 @@ use mathlib.Core.List.{List}
 use Prim.Native.Nat.{ℕ, zero, suc, ◌-◌, ◌<◌}
 use native.Mathlib.Omega.{arith}
 use Rattle.sheet.specs.declared.Sheet.{Sheet}
-use Rattle.account.specs.declared.Due.{Due}
+use Rattle.day_calls.specs.declared.Step.{Step}
 use Rattle.account.specs.Day.{Pending, Running, turned, ran_by, ran_to}
 
 -- no call is due
 abbrev pub NoneDue : Pending → Type 0
-NoneDue p = (x : Due) → p ≡ Ok (Some x) → ⊥
+NoneDue p = (x : Step) → p ≡ Ok (Some x) → ⊥
 
 module _ (sheet : Sheet) (text : List ℕ) where
-  pub ran_next : (r : Running) (x : Due) (k : ℕ) → r.day.due ≡ Ok (Some x) → ran_to sheet text (suc k) r ≡ ran_to sheet text k (turned sheet text r x)
+  pub ran_next : (r : Running) (x : Step) (k : ℕ) → r.day.due ≡ Ok (Some x) → ran_to sheet text (suc k) r ≡ ran_to sheet text k (turned sheet text r x)
   unfolding ran_to
   ran_next r x k e = ap (ran_by sheet text (ran_to sheet text k) r) e
 
@@ -31,7 +31,7 @@ module _ (sheet : Sheet) (text : List ℕ) where
 
   -- with the call that is due one fewer is left to come; where none is due the turns have ended
   pub left_by : (left : ℕ) (r : Running)
-      → ((x : Due) → r.day.due ≡ Ok (Some x) → 0 < left → ran_to sheet text left r ≡ ran_to sheet text (left - 1) (turned sheet text r x))
+      → ((x : Step) → r.day.due ≡ Ok (Some x) → 0 < left → ran_to sheet text left r ≡ ran_to sheet text (left - 1) (turned sheet text r x))
       × (NoneDue r.day.due → ran_to sheet text left r ≡ r)
   left_by left r = (
     λ x is some. let e : left ≡ suc (left - 1) = omega arith in ap (λ (k : ℕ). ran_to sheet text k r) e ∙ ran_next r x (left - 1) is,

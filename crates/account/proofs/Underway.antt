@@ -20,7 +20,7 @@ use Rattle.engine.specs.Journal.{Performed, performed}
 use Rattle.journal.specs.declared.Accounts.{Accounts}
 use Rattle.journal.specs.Accounts.{passes, Known, Performs}
 use Rattle.journal.proofs.Turning.{known_next}
-use Rattle.account.specs.declared.Due.{Due}
+use Rattle.day_calls.specs.declared.Step.{Step}
 use Rattle.account.specs.Day.{Pending, due_at, day_with, answered_by, day_after, Running, turned, ran_to, most_calls, begun, day_from}
 use Rattle.account.proofs.Turned.{NoneDue, ran_next, ran_end}
 
@@ -59,7 +59,7 @@ module _ (sheet : Sheet) (text : List ℕ) (at : ℕ) where
     under_out none = sym (ap (λ (k : ℕ). (ran_to sheet text k (run_of a due)).day) none) ∙ u.ahead
 
     -- the call that is due is carried out
-    module _ (x : Due) (a' : Accounts) (r : Done) (p : Performs a (call_for text x.asked) a' r) (due' : Pending) (after : due' ≡ answered_by text x.after r.place r.answer) where
+    module _ (x : Step) (a' : Accounts) (r : Done) (p : Performs a (call_for text x.asked) a' r) (due' : Pending) (after : due' ≡ answered_by text x.after r.place r.answer) where
       turned_run : turned sheet text (run_of a due) x ≡ run_of a' due'
       unfolding turned day_after
       turned_run =

@@ -18,7 +18,7 @@ use Rattle.day_calls.specs.declared.Next.TheVariants.{Take, Settle}
 use Rattle.day_calls.specs.DayCalls.{next_at, Coming}
 use Rattle.account.specs.declared.DayRefusal.{DayRefusal}
 use Rattle.account.specs.declared.DayRefusal.TheVariants.{Line as not_a_call, Call as refused_call}
-use Rattle.account.specs.declared.Due.{Due}
+use Rattle.day_calls.specs.declared.Step.{Step}
 use Rattle.account.specs.declared.Day.{Day}
 
 -- the number of a line that is no call, or of a call's refusal
@@ -28,7 +28,7 @@ day_number (refused_call r) = refusal_number r
 
 -- what is due: a call, or none where the text has ended; or why the day is refused
 abbrev pub Pending : Type 0
-Pending = Result (Option Due) DayRefusal
+Pending = Result (Option Step) DayRefusal
 
 -- by what comes at a place; a record's call keeps the place
 abbrev pub due_with : (at : ℕ) → Coming → Pending
@@ -52,7 +52,7 @@ answered_by text after place (Ok Committed) = due_at text after
 answered_by text after place (Ok (Posted n)) = due_at text place
 answered_by text after place (Err r) = Err (refused_call r)
 
-unfoldable pub day_after : List ℕ → Due → Outcome → Day
+unfoldable pub day_after : List ℕ → Step → Outcome → Day
 day_after text x o = day_with o.count o.book (answered_by text x.after o.place o.answer)
 
 -- the day, and the list of postings
@@ -61,10 +61,10 @@ pub record Running : Type 0 where
   pub day : Day
 
 -- "each carried out as it comes"
-abbrev pub performed_in : Sheet → List ℕ → Running → Due → Performed
+abbrev pub performed_in : Sheet → List ℕ → Running → Step → Performed
 performed_in s text r x = performed r.list r.day.count s r.day.book (call_for text x.asked)
 
-unfoldable pub turned : Sheet → List ℕ → Running → Due → Running
+unfoldable pub turned : Sheet → List ℕ → Running → Step → Running
 turned s text r x =
     let p = performed_in s text r x in
     record { list = p.list; day = day_after text x p.outcome }

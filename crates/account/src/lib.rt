@@ -11,11 +11,11 @@ ghost use Rattle.account.specs.Day.{day_number, due_at, answered_by, day_from};
 ghost use Rattle.account.specs.declared.DayRefusal.TheVariants.{Line as not_a_call, Call as refused_call};
 ghost use Rattle.account.specs.Statement.{day_lines, statement_of};
 
-use day_calls::Next;
+use day_calls::{Next, Step};
 use decimal::Writer;
 use decisions::Call;
 use journal::Accounts;
-use ledger::{Asked, Effect, Refusal};
+use ledger::{Effect, Refusal};
 use sheet::Sheet;
 use state::Book;
 use text::TextFault;
@@ -55,34 +55,22 @@ impl DayRefusal {
     }
 }
 
-// A call that is due, and the place after its line; a record's call keeps the place of the record.
-#[derive(Clone, Copy)]
-pub struct Due {
-    pub asked: Asked,
-    pub after: usize,
-}
-
-// A day, with what is due in it: a call, or none where its text has ended; or why it is refused.
+// A day, with what is due in it: a call with the place after its line, where a record's call keeps the place of the record; none where the
+// day's text has ended; or why it is refused.
 #[derive(Clone, Copy)]
 pub struct Day {
     pub count: u64,
     pub book: Book,
-    pub due: Result<Option<Due>, DayRefusal>,
+    pub due: Result<Option<Step>, DayRefusal>,
 }
 
 // What is due at a place.
-fn due_at(text: &[u8], at: usize) -> Result<Option<Due>, DayRefusal>
+fn due_at(text: &[u8], at: usize) -> Result<Option<Step>, DayRefusal>
     ensures { result ≡ due_at text.now at }
 {
     match day_calls::next_at(text, at)? {
-        Some(Next::Take(asked, after)) => Ok(Some(Due {
-            asked: asked,
-            after: after,
-        })),
-        Some(Next::Settle(asked)) => Ok(Some(Due {
-            asked: asked,
-            after: at,
-        })),
+        Some(Next::Take(asked, after)) => Ok(Some(Step { asked, after })),
+        Some(Next::Settle(asked)) => Ok(Some(Step { asked, after: at })),
         None => Ok(None),
     }
 }
@@ -93,7 +81,7 @@ fn due_after(
     after: usize,
     place: u64,
     answer: Result<Effect, Refusal>,
-) -> Result<Option<Due>, DayRefusal>
+) -> Result<Option<Step>, DayRefusal>
     ensures { result ≡ answered_by text.now after place answer }
 {
     match answer? {

@@ -55,16 +55,19 @@ pub fn plant_energy(net: NetKwh, reverse: NetKwh, loss: u64) -> HubGrains
     energy::hub_of(net.above(reverse), loss)
 }
 
+// `real` of the plant's units, by place; 0 outside the plant.
+fn reals_of(plant: &Plant) -> [u64; 8]
+    ensures { result ≡ tabulate 8 (λ (k : ℕ). (net_at plant.now k).0) }
+{
+    array::from_fn(|k| units::member_or(plant.units, k, plant.unit[k].real, NetKwh(0)).0)
+}
+
 // R: the sum of `real` over the plant's units.
 fn real_sum(plant: &Plant) -> NetKwh
     requires { (k : ℕ) → (net_at plant.now k).0 ≤ 1000000 }
     ensures { result ≡ real_sum plant.now }
 {
-    let mut sum = NetKwh(0);
-    for k in 0..8 {
-        sum = sum.plus(units::member_or(plant.units, k, plant.unit[k].real, NetKwh(0)));
-    }
-    sum
+    NetKwh(reals_of(plant).iter().sum())
 }
 
 impl PlantUnit {
@@ -98,7 +101,8 @@ fn with_shares(plant: &Plant, shares: [u64; 8]) -> [HubGrains; 8]
 }
 
 impl Filling {
-    // A unit with so much energy.
+    // A unit with so much energy. That its offer holds is asked only where there is room below the ceiling: a unit outside the plant may have an
+    // offer that does not hold.
     fn of(unit: &PlantUnit, ceiling: HubGrains, energy: HubGrains) -> Filling
         requires { energy.0 < ceiling.0 → Offered unit.now }
         ensures { (result.ceiling ≡ ceiling) × (result.energy ≡ energy) × HasBlock unit.now result }
@@ -136,18 +140,7 @@ fn unfilled(plant: &Plant, ceilings: [HubGrains; 8]) -> [Filling; 8]
     requires { EachOffered plant.now.unit ceilings }
     ensures { (length result ≡ 8) × Fillings plant.now.unit ceilings result × ((u : ℕ) → u < 8 → (filling_at result u).energy.0 ≡ 0) }
 {
-    let mut fillings = [Filling {
-        ceiling: HubGrains(0),
-        energy: HubGrains(0),
-        next: Block {
-            price: 0,
-            end: HubGrains(0),
-        },
-    }; 8];
-    for u in 0..8 {
-        fillings[u] = Filling::of(&plant.unit[u], ceilings[u], HubGrains(0));
-    }
-    fillings
+    array::from_fn(|u| Filling::of(&plant.unit[u], ceilings[u], HubGrains(0)))
 }
 
 // The unit found so far with the price of its next block, or unit v with its own next block's where that is less.

@@ -16,6 +16,10 @@ use Rattle.record_lines.specs.Rows.{declared_line, real_line, test_line, deviati
 abbrev pub blank : Line → Bool
 blank l = eqb l.count 0
 
+-- a line that is not blank
+abbrev pub given : Line → Option Line
+given l = cond (blank l) None (Some l)
+
 -- "Blank means 0 (..), except: (..)": the number of a line, or what blank means there
 abbrev pub value_or : ℕ → Line → ℕ
 value_or b l = cond (blank l) b (number_of l)

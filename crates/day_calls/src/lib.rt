@@ -106,12 +106,9 @@ fn step_of(text: &[u8], at: usize, next: Next) -> Step
     ensures { result ≡ step_of text.now at next }
 {
     match next {
-        Next::Take(asked, after) => Step {
-            asked: asked,
-            after: after,
-        },
+        Next::Take(asked, after) => Step { asked, after },
         Next::Settle(asked) => Step {
-            asked: asked,
+            asked,
             after: record_end::behind_record(text, at),
         },
     }

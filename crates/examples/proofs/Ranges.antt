@@ -2,12 +2,14 @@
 -- Assumes nothing.
 use mathlib.Core.Path.{◌≡◌}
 use mathlib.Core.Bool.{true}
+use mathlib.Core.List.{List, [], ◌∷◌}
 use Prim.Native.Nat.{ℕ, zero, suc, ◌≤◌, ◌<◌}
 use native.Mathlib.Omega.{arith}
-use lib.ListN.{get_or, set, replicate, get_or-replicate}
+use lib.ListN.{length, get_or, set, replicate, get_or-replicate}
 use lib.Seq.{get_or-set_other}
 use borrow.Author.Tests.{le-leb, lt-ltb}
-use Rattle.finite.specs.Finite.{every}
+use Rattle.finite.specs.Finite.{every, tabulate}
+use Rattle.finite.proofs.Tables.{get_d_tabulate}
 use Rattle.energy.specs.declared.NetKwh.{NetKwh}
 use Rattle.energy.specs.declared.HubKwh.{HubKwh}
 use Rattle.units.specs.Units.{member_at}
@@ -47,18 +49,24 @@ two_steps_hold q p q' p' a b first second least rising most order dearest =
       le-leb p p' order,
     )
 
-module _ (s a b : Span) (a_in : SpanInRange a) (b-in : SpanInRange b) where
-  pub two_spans : (i : ℕ) → i < 2 → SpanInRange (get_or (set (set (replicate 6 s) 0 a) 1 b) i no_span)
-  two_spans zero l = a_in
+-- two spans, or three, each in its range, are so by index
+module _ (a b : Span) (a-in : SpanInRange a) (b-in : SpanInRange b) where
+  pub two_spans : (i : ℕ) → i < 2 → SpanInRange (get_or (a ∷ b ∷ []) i no_span)
+  two_spans zero l = a-in
   two_spans (suc zero) l = b-in
   two_spans (suc (suc i)) l = absurd (omega arith)
 
-  pub three_spans : (c : Span) → SpanInRange c → (i : ℕ) → i < 3
-      → SpanInRange (get_or (set (set (set (replicate 6 s) 0 a) 1 b) 2 c) i no_span)
-  three_spans c c-in zero l = a_in
+  pub three_spans : (c : Span) → SpanInRange c → (i : ℕ) → i < 3 → SpanInRange (get_or (a ∷ b ∷ c ∷ []) i no_span)
+  three_spans c c-in zero l = a-in
   three_spans c c-in (suc zero) l = b-in
   three_spans c c-in (suc (suc zero)) l = c-in
   three_spans c c-in (suc (suc (suc i))) l = absurd (omega arith)
+
+-- the spans of an array of six, which are those given as far as these go, are in range
+pub spans_in : (given spans : List Span) → spans ≡ tabulate 6 (λ (i : ℕ). get_or given i no_span) → length given ≤ 6
+    → ((i : ℕ) → i < length given → SpanInRange (get_or given i no_span)) → (i : ℕ) → i < length given → SpanInRange (get_or spans i no_span)
+spans_in given spans made few each i l =
+    rw (made, get_d_tabulate 6 (λ (i : ℕ). get_or given i no_span) i no_span (omega (arith, few, l))) (each i l)
 
 -- a unit of example 12
 pub unit_holds : (u : PlantUnit) (real commitment : ℕ) (o : Offer)

@@ -2,7 +2,8 @@
 // number, then its figures. The sources have no example of kind 8; those of it here were worked out by hand.
 #![tactic(auto)]
 
-ghost use Rattle.std.specs.Prelude.{◌≡◌, true, ℕ, ◌≤◌, ◌<◌, get_or};
+ghost use Rattle.std.specs.Prelude.{◌≡◌, true, ℕ, ◌≤◌, ◌<◌, length, get_or};
+ghost use Rattle.finite.specs.Finite.{tabulate};
 ghost use Rattle.offer.specs.Offer.{offer_holds};
 ghost use Rattle.allocation.specs.Allocation.{PlantHolds};
 ghost use Rattle.record.specs.Empty.{no_span};
@@ -14,22 +15,8 @@ use energy::{Energy, GrossKwh, HubGrains, HubKwh, NetKwh};
 use formulas::{AvailabilityRate, Declaration, Deviations};
 use offer::{ModifiedOffer, Offer, Step};
 use record::{Span, UnitRecord};
-use std::io;
 use std::io::{BufWriter, Write};
-
-fn say<W: Write>(out: &mut W, words: &[u8]) -> io::Result<()> {
-    out.write_all(words)
-}
-
-fn say_number<W: Write>(out: &mut W, n: u64) -> io::Result<()> {
-    write!(out, "{n}")
-}
-
-// A further number of a line.
-fn say_next<W: Write>(out: &mut W, n: u64) -> io::Result<()> {
-    say(out, b" ")?;
-    say_number(out, n)
-}
+use std::{array, io};
 
 fn step(quantity: u64, price: u64) -> Step
     ensures { result ≡ record { quantity = record { 0 = quantity }; price = price } }
@@ -40,7 +27,7 @@ fn step(quantity: u64, price: u64) -> Step
     }
 }
 
-// An offer of two steps.
+// An offer of two steps. In a program of the tests the facts of its constants are promised where they are made, here and below.
 fn two_steps(quantity: u64, price: u64, next_quantity: u64, next_price: u64) -> Offer
     requires { (1 ≤ quantity) × (quantity < next_quantity) × (next_quantity ≤ 1000000) × (price ≤ next_price) × (next_price ≤ 10000000) }
     ensures { offer_holds result ≡ true }
@@ -86,56 +73,51 @@ fn example_12<W: Write>(out: &mut W) -> io::Result<()> {
         plant: &plant_12(),
     };
     let energy = delivered.allocate();
-    say(out, b"12")?;
-    say_next(out, energy[0].0)?;
-    say_next(out, energy[1].0)?;
-    say_next(out, energy[2].0)?;
-    say(out, b"\n")
+    writeln!(out, "12 {} {} {}", energy[0].0, energy[1].0, energy[2].0)
 }
 
 // A of 120,000 on a day.
 fn example_13<W: Write>(out: &mut W, month: u64, day: u64) -> io::Result<()> {
     let season = formulas::in_season(month, day);
     let allowed = formulas::declaration_ceiling(season, GrossKwh(120000));
-    say(out, b"13 ")?;
-    say_number(out, allowed.0)?;
-    say(out, b"\n")
+    writeln!(out, "13 {}", allowed.0)
+}
+
+// The spans given, and none at the places after them. It stands by itself, since what a closure gives is not known inside a generic function.
+fn six_spans(given: &[Span]) -> [Span; 6]
+    ensures { result ≡ tabulate 6 (λ (i : ℕ). get_or given.now i no_span) }
+{
+    array::from_fn(|i| given.get(i).copied().unwrap_or(record::no_span()))
 }
 
 // The split of the deviation of a unit with an own use of 1 per cent, by its test criterion and its spans: d2 to d8.
 fn split_example<W: Write>(
     out: &mut W,
-    name: &[u8],
+    name: &str,
     test: NetKwh,
     deviation: NetKwh,
-    spans: usize,
-    span: [Span; 6],
+    given: &[Span],
 ) -> io::Result<()>
-    requires test_bound { (test.0 ≤ 1000000) × (deviation.0 ≤ 1000000) × (1 ≤ spans) × (spans ≤ 6) }
-    requires by_index { (i : ℕ) → i < spans → SpanInRange (get_or span i no_span) }
+    requires bounds { (test.0 ≤ 1000000) × (deviation.0 ≤ 1000000) × (1 ≤ length given.now) × (length given.now ≤ 6) }
+    requires by_index { (i : ℕ) → i < length given.now → SpanInRange (get_or given.now i no_span) }
 {
     let u = UnitRecord {
         declared: GrossKwh(0),
         real: NetKwh(0),
-        test: test,
-        deviation: deviation,
+        test,
+        deviation,
         power: GrossKwh(0),
         reading: None,
         since: 1,
         repair: 0,
-        spans: spans,
-        span: span,
+        spans: given.len(),
+        span: six_spans(given),
     };
-    let d = deviation::split(100, &u);
-    say(out, name)?;
-    say_next(out, d.kwh[0].0)?;
-    say_next(out, d.kwh[1].0)?;
-    say_next(out, d.kwh[2].0)?;
-    say_next(out, d.kwh[3].0)?;
-    say_next(out, d.kwh[4].0)?;
-    say_next(out, d.kwh[5].0)?;
-    say_next(out, d.kwh[6].0)?;
-    say(out, b"\n")
+    write!(out, "{name}")?;
+    for kwh in deviation::split(100, &u).kwh {
+        write!(out, " {}", kwh.0)?;
+    }
+    writeln!(out)
 }
 
 fn span_of(minutes: u64, kind: u64, cause: u64, capability: GrossKwh) -> Span
@@ -143,32 +125,11 @@ fn span_of(minutes: u64, kind: u64, cause: u64, capability: GrossKwh) -> Span
     ensures { SpanInRange result }
 {
     Span {
-        minutes: minutes,
-        kind: kind,
-        cause: cause,
-        capability: capability,
+        minutes,
+        kind,
+        cause,
+        capability,
     }
-}
-
-fn two_spans(first: Span, second: Span) -> [Span; 6]
-    requires { SpanInRange first × SpanInRange second }
-    ensures { (i : ℕ) → i < 2 → SpanInRange (get_or result i no_span) }
-{
-    let mut span = [record::no_span(); 6];
-    span[0] = first;
-    span[1] = second;
-    span
-}
-
-fn three_spans(first: Span, second: Span, third: Span) -> [Span; 6]
-    requires { SpanInRange first × SpanInRange second × SpanInRange third }
-    ensures { (i : ℕ) → i < 3 → SpanInRange (get_or result i no_span) }
-{
-    let mut span = [record::no_span(); 6];
-    span[0] = first;
-    span[1] = second;
-    span[2] = third;
-    span
 }
 
 // Kinds 2 and 3.
@@ -176,16 +137,21 @@ fn example_16<W: Write>(out: &mut W) -> io::Result<()> {
     let first = span_of(20, 1, 0, GrossKwh(135000));
     let second = span_of(30, 2, 0, GrossKwh(110000));
     let third = span_of(10, 3, 0, GrossKwh(105000));
-    let spans = three_spans(first, second, third);
-    split_example(out, b"16", NetKwh(135000), NetKwh(17500), 3, spans)
+    split_example(
+        out,
+        "16",
+        NetKwh(135000),
+        NetKwh(17500),
+        &[first, second, third],
+    )
 }
 
 // Kind 2, once of environmental cause.
+#[tactic(auto, using(crate::proofs::Ranges::two_spans))]
 fn example_18<W: Write>(out: &mut W) -> io::Result<()> {
     let first = span_of(40, 2, 0, GrossKwh(40000));
     let second = span_of(20, 2, 1, GrossKwh(20000));
-    let spans = two_spans(first, second);
-    split_example(out, b"18", NetKwh(80000), NetKwh(46000), 2, spans)
+    split_example(out, "18", NetKwh(80000), NetKwh(46000), &[first, second])
 }
 
 // Kinds 7 and 8 in equal proportions: the odd kWh is kind 7's. The causes leave kind 8 as it is.
@@ -193,8 +159,13 @@ fn kind_8_split<W: Write>(out: &mut W) -> io::Result<()> {
     let first = span_of(30, 7, 0, GrossKwh(40000));
     let second = span_of(15, 8, 1, GrossKwh(40000));
     let third = span_of(15, 8, 2, GrossKwh(40000));
-    let spans = three_spans(first, second, third);
-    split_example(out, b"kind 8", NetKwh(80000), NetKwh(10001), 3, spans)
+    split_example(
+        out,
+        "kind 8",
+        NetKwh(80000),
+        NetKwh(10001),
+        &[first, second, third],
+    )
 }
 
 // The commitment of 150,000 hub kWh leaves nothing of the declared 150,000.
@@ -202,9 +173,7 @@ fn example_21<W: Write>(out: &mut W) -> io::Result<()> {
     let declared = energy::net_of(GrossKwh(150000), 300);
     let gate = energy::gate_of(HubKwh(150000), 100);
     let unsold = declared.above(gate);
-    say(out, b"21 ")?;
-    say_number(out, unsold.0)?;
-    say(out, b"\n")
+    writeln!(out, "21 {}", unsold.0)
 }
 
 // A deviation of kinds 2, 3, 5, 6 and 8.
@@ -236,7 +205,7 @@ fn of_kind_8(d8: u64) -> Deviations
 // The charge of a deviation by a base availability rate of 185,000, 0 where it is free.
 fn test_example<W: Write>(
     out: &mut W,
-    name: &[u8],
+    name: &str,
     d: Deviations,
     repair: u64,
     reading: NetKwh,
@@ -246,25 +215,19 @@ fn test_example<W: Write>(
     requires { ((counted_deviation d repair).0 ≤ 10000000) × (weighted d repair ≤ 10000000) × (cpf ≤ 10000) }
 {
     let q = charge::counted_deviation(d, repair);
-    say(out, name)?;
-    say(out, b" ")?;
     if charge::is_charged(q, Some(reading), HubGrains(0), 0) {
         let w = charge::weighted(d, repair);
-        let rate = AvailabilityRate {
-            cpf: cpf,
-            bar: 185000,
-        };
-        say_number(out, charge::charge_of(w, since, rate))?;
+        let rate = AvailabilityRate { cpf, bar: 185000 };
+        writeln!(out, "{name} {}", charge::charge_of(w, since, rate))
     } else {
-        say_number(out, 0)?;
+        writeln!(out, "{name} 0")
     }
-    say(out, b"\n")
 }
 
 // The refund of a unit that declared 98,000 net, with an own use of 2 per cent, by A: how much energy, and the amount.
 fn refund_example<W: Write>(
     out: &mut W,
-    name: &[u8],
+    name: &str,
     real: NetKwh,
     d: Deviations,
     a: GrossKwh,
@@ -279,14 +242,12 @@ fn refund_example<W: Write>(
         deviations: d,
         allowed,
     };
-    say(out, name)?;
-    say_next(out, declaration.refund_kwh().0)?;
     let rate = AvailabilityRate {
         cpf: 1500,
         bar: 185000,
     };
-    say_next(out, declaration.refund(rate))?;
-    say(out, b"\n")
+    let kwh = declaration.refund_kwh();
+    writeln!(out, "{name} {} {}", kwh.0, declaration.refund(rate))
 }
 
 // The offer of examples 41, 42 and 44.
@@ -311,19 +272,17 @@ fn energy_example<W: Write>(out: &mut W, number: u64, energy: HubGrains) -> io::
         commitment: HubKwh(0),
     };
     let cost = modified.cost_between(HubGrains(0), energy);
-    say_number(out, number)?;
-    say_next(out, formulas::energy_pay(cost))?;
-    say(out, b"\n")
+    writeln!(out, "{number} {}", formulas::energy_pay(cost))
 }
 
 fn refund_examples<W: Write>(out: &mut W) -> io::Result<()> {
     let d5 = of_kinds(0, 0, 10000, 0, 0);
-    refund_example(out, b"23", NetKwh(90000), d5, GrossKwh(120000))?;
-    refund_example(out, b"24", NetKwh(70000), d5, GrossKwh(120000))?;
-    refund_example(out, b"25", NetKwh(90000), d5, GrossKwh(80000))?;
+    refund_example(out, "23", NetKwh(90000), d5, GrossKwh(120000))?;
+    refund_example(out, "24", NetKwh(70000), d5, GrossKwh(120000))?;
+    refund_example(out, "25", NetKwh(90000), d5, GrossKwh(80000))?;
     refund_example(
         out,
-        b"kind 8",
+        "kind 8",
         NetKwh(70000),
         of_kind_8(10000),
         GrossKwh(120000),
@@ -334,11 +293,11 @@ fn refund_examples<W: Write>(out: &mut W) -> io::Result<()> {
 // times them is the reading, and where it is one over it.
 fn test_examples<W: Write>(out: &mut W) -> io::Result<()> {
     let d2_d3 = of_kinds(10000, 20000, 0, 0, 0);
-    test_example(out, b"26", d2_d3, 0, NetKwh(80000), 1, 2000)?;
-    test_example(out, b"26", d2_d3, 0, NetKwh(80000), 2, 1980)?;
+    test_example(out, "26", d2_d3, 0, NetKwh(80000), 1, 2000)?;
+    test_example(out, "26", d2_d3, 0, NetKwh(80000), 2, 1980)?;
     test_example(
         out,
-        b"27",
+        "27",
         of_kinds(1800, 0, 0, 0, 0),
         0,
         NetKwh(80000),
@@ -346,13 +305,13 @@ fn test_examples<W: Write>(out: &mut W) -> io::Result<()> {
         2000,
     )?;
     let d6 = of_kinds(0, 0, 0, 40000, 0);
-    test_example(out, b"28", d6, 0, NetKwh(0), 1, 2000)?;
-    test_example(out, b"28", d6, 0, NetKwh(0), 2, 1980)?;
-    test_example(out, b"kind 8", of_kind_8(2000), 0, NetKwh(60000), 1, 2000)?;
-    test_example(out, b"kind 8", of_kind_8(2001), 0, NetKwh(60000), 1, 2000)?;
-    test_example(out, b"kind 8", of_kind_8(2001), 1, NetKwh(60000), 2, 2000)?;
-    test_example(out, b"kind 8", of_kind_8(2000), 0, NetKwh(40000), 1, 2000)?;
-    test_example(out, b"kind 8", of_kind_8(2000), 0, NetKwh(39999), 1, 2000)
+    test_example(out, "28", d6, 0, NetKwh(0), 1, 2000)?;
+    test_example(out, "28", d6, 0, NetKwh(0), 2, 1980)?;
+    test_example(out, "kind 8", of_kind_8(2000), 0, NetKwh(60000), 1, 2000)?;
+    test_example(out, "kind 8", of_kind_8(2001), 0, NetKwh(60000), 1, 2000)?;
+    test_example(out, "kind 8", of_kind_8(2001), 1, NetKwh(60000), 2, 2000)?;
+    test_example(out, "kind 8", of_kind_8(2000), 0, NetKwh(40000), 1, 2000)?;
+    test_example(out, "kind 8", of_kind_8(2000), 0, NetKwh(39999), 1, 2000)
 }
 
 fn main(rt: HostRuntime) -> io::Result<()> {

@@ -1,10 +1,9 @@
 -- A journal list of its own of which a first part is lent: what is lent, how long it is, and that the part lent again is what came back.
 -- Assumes nothing.
-use mathlib.Core.Path.{◌≡◌, sym, ap, subst, ◌∙◌}
+use mathlib.Core.Path.{◌≡◌, ap, subst, ◌∙◌}
 use mathlib.Core.List.{List, ◌++◌}
 use Prim.Native.Nat.{ℕ, ◌≤◌}
-use native.Mathlib.Omega.{arith}
-use lib.ListN.{length, take, replicate, length-append, length-replicate}
+use lib.ListN.{length, take, replicate, length-replicate}
 use Rattle.std.proofs.Math.Seq.{take-append_seam}
 use Rattle.std.proofs.lemmas.List.{take-replicate}
 use Rattle.postings.specs.declared.Posting.{Posting}
@@ -17,11 +16,5 @@ module _ (p n : ℕ) (x : Posting) (h : p ≤ n) where
   front_length m e = e ∙ (ap length front ∙ length-replicate p x)
 
 module _ (p : ℕ) (a b : List Posting) (e : length a ≡ p) where
-  pub longer : p ≤ length (a ++ b)
-  longer = omega (arith, length-append a b)
-
   pub again : take p (a ++ b) ≡ a
   again = subst (λ (k : ℕ). take k (a ++ b) ≡ a) e (take-append_seam a b)
-
-  pub again_length : p ≡ length (take p (a ++ b))
-  again_length = sym (ap length again ∙ e)

@@ -2,7 +2,8 @@
 -- has room for, and a longer one keeps the rest.
 use Rattle.std.specs.Prelude.{Result, Ok, Err}
 use Rattle.lines.specs.declared.TextRefusal.{TextRefusal}
-use Rattle.std.specs.Prelude.{cond, List, ℕ, zero, suc, ◌+◌, ◌*◌, ◌/◌, min, ltb, ℤ, pos, length, get_or, set, replicate}
+use Rattle.std.specs.Prelude.{cond, List, [], ◌∷◌, ℕ, zero, suc, ◌+◌, ◌*◌, ◌/◌, min, ltb, ℤ, pos, length, get_or, set, replicate}
+use Rattle.std.proofs.Math.Seq.{paste}
 use Rattle.lines.specs.Refusals.{text_number}
 use Rattle.sheet.specs.declared.Sheet.{Sheet}
 use Rattle.sheet_text.specs.Day.{read_sheet}
@@ -51,7 +52,7 @@ signed_of x = cond (ltb x 9223372036854775808) (pos x) (pos 0)
 unfoldable pub posting_stored : List ℤ → ℕ → Posting → List ℤ
 posting_stored l k x =
     cond (ltb k (length l / 4))
-    (set (set (set (set l (4 * k) (signed_of x.hour)) (4 * k + 1) (signed_of x.unit)) (4 * k + 2) (signed_of x.item)) (4 * k + 3) x.amount)
+    (paste l (4 * k) (signed_of x.hour ∷ signed_of x.unit ∷ signed_of x.item ∷ x.amount ∷ []) 4)
     l
 
 -- the first places of a journal list

@@ -1,19 +1,19 @@
 // What C and Rust programs call: slices of bytes and numbers in, slices of numbers out. include/gozalvek.h says what each argument is.
 #![tactic(auto)]
 
-ghost use Rattle.std.specs.Prelude.{◌≡◌, ◌<◌, ◌≤◌, min, length, set};
+ghost use Rattle.std.specs.Prelude.{◌≡◌, ◌<◌, ◌≤◌, ◌+◌, ◌*◌, min, length, get_or, set};
 ghost use Rattle.decimal.specs.Output.{output, filled};
 ghost use Rattle.listing.specs.Listing.{most_bytes};
 ghost use Rattle.account.specs.Statement.{statement_of};
-ghost use Rattle.exports.specs.Exports.{commitment_numbers, mark_numbers, energy_numbers, held_numbers, item_numbers, amount_numbers, signed_of, posting_stored, listed_to, most_places, owned_of, called_of};
+ghost use Rattle.state.specs.Sizes.{entries, items};
+ghost use Rattle.exports.specs.Exports.{put, held_numbers, amount_numbers, signed_of, posting_stored, listed_to, most_places, owned_of, called_of};
 
 use journal::Ran;
 use postings::Posting;
-use settlement::Amounts;
 use sheet::Sheet;
 use state::Book;
 
-// A value stored at a place, where there is such.
+// A value stored at a place. A slice that C lends may be too short: what has no place there is left out.
 fn store<T: Copy>(out: &mut [T], at: usize, x: T)
     ensures { out.new ≡ set out.old at x }
 {
@@ -22,93 +22,63 @@ fn store<T: Copy>(out: &mut [T], at: usize, x: T)
     }
 }
 
-// The 192 commitments, from the first place on. Commitments, marks and energies are a loop of one line each: a common one by `Energy::amount` would
-// serve two of the three, and promise less than the whole list.
-fn put_commitments(out: &mut [u64], book: &Book)
-    ensures { out.new ≡ commitment_numbers book.now out.old }
+// A list's entries in their order from a place on: C gets a book as numbers at fixed places.
+fn store_all<T: Copy, const N: usize>(out: &mut [T], from: usize, list: &[T; N])
+    requires { from + N ≤ entries * items }
+    ensures { (none : T) → out.new ≡ put out.old from (λ k. get_or list.now k none) N }
 {
-    for k in 0..192 {
-        store(out, k, book.commitment[k].0);
+    for (k, x) in list.iter().enumerate() {
+        store(out, from + k, *x);
     }
 }
 
-// The 24 hour marks, behind the commitments.
-fn put_marks(out: &mut [u64], book: &Book)
-    ensures { out.new ≡ mark_numbers book.now out.old }
+// The 192 commitments, behind them the 24 hour marks, and behind those the 192 energies.
+fn put_held(out: &mut [u64], book: &Book)
+    ensures { out.new ≡ held_numbers book.now out.old }
 {
-    for k in 0..24 {
-        store(out, 192 + k, book.mark[k]);
-    }
+    store_all(out, 0, &book.commitment.map(|c| c.0));
+    store_all(out, 192, &book.mark);
+    store_all(out, 216, &book.energy.map(|e| e.0));
 }
 
-// The 192 energies, behind the marks.
-fn put_energies(out: &mut [u64], book: &Book)
-    ensures { out.new ≡ energy_numbers book.now out.old }
-{
-    for k in 0..192 {
-        store(out, 216 + k, book.energy[k].0);
-    }
-}
-
-// A unit's five items, at their places.
-fn put_items(out: &mut [i64], at: usize, amounts: Amounts)
-    requires { at < 192 }
-    ensures { out.new ≡ item_numbers out.old at amounts }
-{
-    for i in 0..5 {
-        store(out, 5 * at + i, amounts.item[i]);
-    }
-}
-
-// The 960 amounts, five to an hour and unit.
+// The 960 amounts, five to an hour and unit, as C gets them.
 fn put_amounts(out: &mut [i64], book: &Book)
     ensures { out.new ≡ amount_numbers book.now out.old }
 {
     for k in 0..192 {
-        put_items(out, k, book.amounts[k]);
+        store_all(out, 5 * k, &book.amounts[k].item);
     }
 }
 
-// The commitments, marks and energies.
-fn put_held(out: &mut [u64], book: &Book)
-    ensures { out.new ≡ held_numbers book.now out.old }
-{
-    put_commitments(out, book);
-    put_marks(out, book);
-    put_energies(out, book);
-}
-
-// A number as a signed one, 0 where it is none.
+// A number as a signed one, 0 where it is none: C gets a posting in signed numbers, since its amount is one.
 fn signed(x: u64) -> i64
     ensures { result ≡ signed_of x }
 {
     i64::try_from(x).unwrap_or(0)
 }
 
-// Posting k in four places, where there are such: hour, unit, item, amount.
+// Posting k in four places, where there are such: C gets hour, unit, item and amount as numbers at fixed places.
 fn put_posting(out: &mut [i64], k: usize, x: Posting)
     ensures { out.new ≡ posting_stored out.old k x }
 {
     if k < out.len() / 4 {
         let at = 4 * k;
-        out[at] = signed(x.hour);
-        out[at + 1] = signed(x.unit);
-        out[at + 2] = signed(x.item);
-        let amount = x.amount;
-        out[at + 3] = amount;
+        let number = [signed(x.hour), signed(x.unit), signed(x.item), x.amount];
+        out[at..at + 4].copy_from_slice(&number);
     }
 }
 
-// The journal list, place by place.
+// The journal list, place by place, as C gets it: no array is as long as what C lends, so that no chain collects it.
 fn listed(list: &[Posting], out: &mut [i64])
     ensures { out.new ≡ listed_to out.old list.now (length list.now) }
 {
-    for k in 0..list.len() {
-        put_posting(out, k, list[k]);
+    for (k, x) in list.iter().enumerate() {
+        put_posting(out, k, *x);
     }
 }
 
 // A list of calls over a journal list of so many places of its own, and the list as they leave it. The list is part of an array of `ROOM`.
+// The slices of the C call, lent one by one: a struct of lent slices would need in each contract that each is still the same one.
 fn owned<const ROOM: usize>(
     sheet: &Sheet,
     places: usize,
@@ -127,7 +97,7 @@ fn owned<const ROOM: usize>(
     ran
 }
 
-// The same, over a short array where that holds the places: it is filled in a fraction of the time.
+// The same, over a short array where that holds the places: it is filled in a fraction of the time. The slices are lent one by one, as in `owned`.
 fn carried_out(
     sheet: &Sheet,
     places: usize,
@@ -145,14 +115,15 @@ fn carried_out(
     owned::<100040>(sheet, places, calls, text, answers, out)
 }
 
-// The length of a journal list.
+// The length of a journal list: C may ask for any number of places.
 fn length_of(places: u64) -> usize
     ensures { result ≡ min places most_places }
 {
     places.min(100040) as usize
 }
 
-// A list of calls under the sheet of a text, over a journal list of so many places. Gives the number of the sheet's refusal, or 0.
+// A list of calls under the sheet of a text, over a journal list of so many places. Gives the number of the sheet's refusal, or 0. Each slice is an
+// argument of its own, as include/gozalvek.h has it.
 #[unsafe(no_mangle)]
 pub extern "C" fn gozalvek_calls(
     sheet: &[u8],

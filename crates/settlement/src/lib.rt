@@ -112,7 +112,7 @@ impl UnitHour<'_> {
         let ceiling = formulas::declaration_ceiling(self.rates.season, self.unit.power);
         let d = deviation::split(own, self.unit);
         let its = Declaration {
-            declared: declared,
+            declared,
             real: self.unit.real,
             deviations: d,
             allowed: energy::net_of(ceiling, own),
@@ -195,7 +195,7 @@ impl DueHour<'_> {
             terms: &self.day.unit[k],
             commitment: self.commitment[k],
             unit: &self.hour.unit[k],
-            energy: energy,
+            energy,
         };
         its.amounts(self.drawn_at(k))
     }
@@ -220,7 +220,7 @@ impl DueHour<'_> {
         };
         let energy = delivered.allocate();
         HourResult {
-            energy: energy,
+            energy,
             amounts: self.amounts(&energy),
         }
     }

@@ -1,28 +1,27 @@
--- The loop's invariant: what is summed is the sum over the places passed, at most 10^6 for each.
+-- The chain's sum of `real` is the definition's; eight of at most 10^6 fit.
 -- Assumes nothing.
-use mathlib.Core.Path.{◌≡◌, refl, ap, ◌∙◌}
-use Prim.Native.Nat.{ℕ}
-use native.Mathlib.Omega.{arith}
-use Rattle.finite.specs.Finite.{sum as sum_below}
-use Rattle.finite.proofs.Sums.{sum_next}
-use Rattle.energy.specs.declared.NetKwh.{NetKwh}
+use Rattle.std.proofs.Common.{rules, ◌≡◌, ◌∙◌, ap, ℕ, ◌<◌, ◌^◌, List, arith}
+use Rattle.std.specs.Prelude.{sum as list_sum}
+use Rattle.finite.specs.Finite.{sum}
+use Rattle.finite.proofs.Entries.{sum_tabulate}
+use Rattle.finite.proofs.Sums.{sum_most}
 use Rattle.allocation.specs.Allocation.{net_at, real_sum}
+use Rattle.allocation.proofs.real_sum.Goals.{After-reals_of}
 use Rattle.allocation.proofs.real_sum.Goals as goal
 
-pub loop-k-init : goal.loop-k-init
-unfolding sum_below
-loop-k-init c = (omega arith, refl)
+reals_sum : (c : After-reals_of) → list_sum c.reals_of.result ≡ sum 8 (λ k. (net_at c.args.plant.now k).0)
+reals_sum c = ap (λ (l : List ℕ). list_sum l) c.reals_of.ensures ∙ sum_tabulate 8 (λ k. (net_at c.args.plant.now k).0)
 
-pub loop-k-preserved : goal.loop-k-preserved
-loop-k-preserved c =
-    let l = c.loop-k in
-    let e = ap (λ (n : NetKwh). n.0) c.member_or.ensures in
-    let p = c.plus-sum.ensures in
-    let m = c.requires l.k in
-    (omega (arith, e, p, m, l.invariant), omega (arith, e, p, l.invariant.1, sum_next l.k (λ i. (net_at c.args.plant.now i).0)))
+pub sum-requires-clause-fits : goal.sum-requires-clause-fits
+unfolding sum
+sum-requires-clause-fits c =
+    let most = sum_most 0 8 (λ k. (net_at c.args.plant.now k).0) (omega arith) 1000000 (λ k a b. c.requires k) in
+    let fits : list_sum c.reals_of.result < 2 ^ 64 = omega (arith, reals_sum (goal.at.sum-requires-clause-fits c).After-reals_of, most) in
+    search rules
 
 pub returns : goal.returns
 unfolding real_sum
 returns c =
-    let k : c.loop-k.k ≡ 8 = omega arith in
-    λ i. record { 0 = (c.loop-k.invariant.1 ∙ ap (λ (n : ℕ). sum_below n (λ i. (net_at c.args.plant.now i).0)) k) i }
+    let total : c.sum.result ≡ list_sum c.reals_of.result = search rules in
+    let e = total ∙ reals_sum (goal.at.returns c).After-reals_of in
+    λ i. record { 0 = e i }

@@ -24,8 +24,8 @@ returns c =
     c.value_or-3.ensures
     c.value_or-4.ensures
     c.value_or-5.ensures
-    c.reading_by.ensures
+    (c.reading_by.ensures _ c.given.ensures)
     c.value_or-6.ensures
     c.value_or-7.ensures
-    c.spans_by.ensures
+    (c.spans_by.ensures _ c.given-spans.ensures)
     span
