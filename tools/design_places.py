@@ -43,7 +43,6 @@ offer::{steps_in_range,steps_in_order} record::minutes_hold readings::all_measur
 2 sum of a list: apportion::sum_of allocation::real_sum readings::readings_total charge::{counted_deviation,weighted} asks::line_ends
 2 of a place in the plant: allocation::net_at readings::reading_at; readings::measured_at deviation::proportioned_at sheet::place_holds; \
 {blanks,sheet_text}::place_by; entries::put_settled listing::put_place; entries::put_settled_hour listing::put_entry
-new 2 a line that is kept, or what blank means: blanks::{value_or,reading_by,span_by,spans_by}
 2 whether a number is from 1 to a bound: decisions::{hour_bad,no_unit} single::item_known offer::steps_allowed
 2 book and offers as numbers: numbers::{commitments_of,energies_of,held_in} deviation::deviations_by; numbers::{put_quantities,put_prices,put_amounts}; \
 numbers::{store_energies,store_amounts}; state::limit_of numbers::limit_in; numbers::offer_in sheet_text::offer_by
@@ -78,11 +77,13 @@ exports::{put_commitments,put_marks,put_energies,put_items,put_amounts}
 settlement::UnitHour.availability
 4 a machine number to another: text::wide exports::signed decimal::{size,digit}
 gone 4 the library's `try_from`: exports::signed
+new 4 book or offers to or from numbers: exports::put_held
 4 copied or filled one by one: journal::append apportion::zeros exports::listed
 6 a length beside: ledger::Decision text::Head batch::Batch daybook::Stand own_journal::Carried day_calls::Listed lines::Cursor values::{numbers,value_into} \
 decimal::Writer daybook::Replay
 gone 6 into a line, whose count is its own: values::numbers
 6 a sorted list searched: offer::block_at
+6 a place in a list: exports::store_all
 6 an hour and a place as one number: listing::is_listed commitments::limit_in
 new 6 an hour and a place as one number: entries::put_commitment
 gone 6 how many units there are, no length of the list: record_lines::read_lines
