@@ -65,6 +65,7 @@ pub struct CommitmentChange {
 }
 
 // What an accepted settle, restate or void comes to: its hour and the text place, and whether the hour is settled, its energies and amounts after it.
+// A void has them too, all 0: the three calls are stored and posted in one way.
 #[derive(Clone, Copy)]
 pub struct HourChange {
     pub hour: u64,

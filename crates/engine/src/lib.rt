@@ -56,7 +56,8 @@ fn store_hour(
     }
 }
 
-// A settle, or a restate (`again`), of the record from byte `start` of the text on: what it comes to, or why it is refused.
+// A settle, or a restate (`again`), of the record from byte `start` of the text on: what it comes to, or why it is refused. Sheet, text and places are lent
+// apart, as in `carry_out`: it reads the book, which that one changes.
 fn record_change(
     book: &Book,
     sheet: &Sheet,

@@ -120,6 +120,7 @@ fn split_example<W: Write>(
     writeln!(out)
 }
 
+// A span in numbers, as a record has them.
 fn span_of(minutes: u64, kind: u64, cause: u64, capability: GrossKwh) -> Span
     requires { (1 ≤ minutes) × (minutes ≤ 60) × (1 ≤ kind) × (kind ≤ 8) × (cause ≤ 2) × (capability.0 ≤ 1000000) }
     ensures { SpanInRange result }
@@ -202,7 +203,7 @@ fn of_kind_8(d8: u64) -> Deviations
     of_kinds(0, 0, 0, 0, d8)
 }
 
-// The charge of a deviation by a base availability rate of 185,000, 0 where it is free.
+// The charge of a deviation by a base availability rate of 185,000, 0 where it is free; `repair` is a record's number.
 fn test_example<W: Write>(
     out: &mut W,
     name: &str,
