@@ -45,8 +45,8 @@ fn put_held(out: &mut [u64], book: &Book)
 fn put_amounts(out: &mut [i64], book: &Book)
     ensures { out.new ≡ amount_numbers book.now out.old }
 {
-    for k in 0..192 {
-        store_all(out, 5 * k, &book.amounts[k].item);
+    for (k, amounts) in book.amounts.iter().enumerate() {
+        store_all(out, 5 * k, &amounts.item);
     }
 }
 
@@ -68,7 +68,7 @@ fn put_posting(out: &mut [i64], k: usize, x: Posting)
     }
 }
 
-// The journal list, place by place, as C gets it: no array is as long as what C lends, so that no chain collects it.
+// The journal list, posting by posting: C gets it as numbers at fixed places.
 fn listed(list: &[Posting], out: &mut [i64])
     ensures { out.new ≡ listed_to out.old list.now (length list.now) }
 {
