@@ -3,12 +3,14 @@
     python3 tools/design_places.py [--counts] [--at COMMIT]
 
 Names, types and signatures tell most places by a pattern. For the rest, the lists below name what was found by reading, each line with what it is; a name
-that no longer stands counts no place. `{a,b}` in a name stands for either.
+that no longer stands counts no place. `{a,b}` in a name stands for either. A function that kept its name while it became a place, or ceased to be one, is
+named with `new` or `gone` before the point: neither is looked at for the commit at which the pass began.
 """
 import argparse, glob, os, re, subprocess
 from collections import Counter, defaultdict, namedtuple
 from itertools import accumulate, chain, combinations, product
 
+BEGAN = '35d870f'
 ROOT = os.path.dirname(os.path.dirname(os.path.abspath(__file__)))
 Item = namedtuple('Item', 'path line form name params result clauses body start')  # of a type, `params` are its fields or variants
 
@@ -26,7 +28,10 @@ PARALLEL = {'commitment', 'mark', 'energy', 'amounts', 'hours', 'weights', 'shar
 # What no pattern tells: the point, what the named are there, and their names; and what a pattern would take and is no place. `;` parts groups of twins.
 LISTS = """
 1 gives a code: asks::{kind_of,is_line_end} lines::{value_code,value_kept} series::refusal_of record::counted_kind state::mark_at
+gone 1 gives an Option: asks::kind_of
 1 gives 0 for none: decisions::{hour_index,entry_index,start_of} single::first_at
+new 1 no parts stand for a word: text::Row
+new 1 settled, and energies and amounts of 0 where it is not: decisions::HourChange
 no 1 all fields go with any answer: ledger::{Outcome,Decision} single::CallDecision
 no 1 the example's number: examples::energy_example
 no 1 a number that is no code, and a sum: text::Part energy::Energy.of apportion::Division
@@ -45,39 +50,64 @@ numbers::{store_energies,store_amounts}; state::limit_of numbers::limit_in; numb
 2 put one by one: exports::{put_commitments,put_marks,put_energies,put_items,put_amounts}; entries::{put_field,put_amount} listing::put_number_field \
 listing::put_item_field; entries::{put_hour_commitments,put_commitments,put_settled_units,put_settled_hours} listing::put_items
 2 match on a kind, a refusal or an answer: decisions::{take_change,release_change,move_change}; decisions::{refusal_number,refusal_line}; \
-lines::{text_number,text_line}; decisions::{number_of,line_of}; decisions::posted_of single::{entries_of,first_at}
+lines::{text_number,text_line}; decisions::{number_of,line_of}; decisions::posted_of single::{entries_of,first_at}; ledger::Refusal.{number,line}
 2 calls: single::{take,release,move_kwh,settle,restate,void_hour,call}; journal::{take,release,move_kwh,settle,restate,void_hour,call}; \
-{journal,own_journal}::run_on; {journal,own_journal}::total; ledger::Decision single::CallDecision; ledger::{Request,Asked}
+journal::Accounts.{take,release,move_kwh,settle,restate,void_hour,call}; {journal,own_journal}::run_on; {journal,own_journal}::total; \
+ledger::Decision single::CallDecision; ledger::{Request,Asked}
 2 a day's calls, read twice: {account,day_calls}::no_call asks::no_asked; {account,day_calls}::settle_at; {account,day_calls}::next_at; \
 account::none_due day_calls::end_step; {account,day_calls}::Next
+new 2 a call and the place behind it: day_calls::Step account::Due
 2 lines of a sheet and of a record: {sheet_lines,record_lines}::head_row; {sheet_lines,record_lines}::unit_row; {sheet_lines,record_lines}::row_at; \
-sheet_lines::read_more record_lines::read_lines; sheet_text::read_sheet record_text::read_record; sheet_text::SheetRead record_text::RecordRead; \
-text::{Line,Head}
+sheet_lines::SheetRows.row_at record_lines::RecordRows.row_at; sheet_lines::read_more record_lines::read_lines; sheet_text::read_sheet \
+record_text::read_record; sheet_text::SheetRead record_text::RecordRead; text::{Line,Head}
 no 2 examples that differ in their figures: examples::{example_16,kind_8_split}
-no 2 what a trait asks of each type: energy::{GrossKwh,NetKwh,HubKwh,HubGrains}.{of,amount} {account::DayRefusal,ledger::Refusal}.from
+no 2 what a trait asks of each type: energy::{GrossKwh,NetKwh,HubKwh,HubGrains}.{of,amount} {account::DayRefusal,ledger::Refusal}.from \
+decimal::{u64,i64}.put entries::{Effect,i64}.put
 4 equality or order: text::{key_is,word_is} formulas::in_order exports::length_of
-4 to or from the document's numbers: lines::{text_refusal,text_number,text_line} decisions::{refusal_number,refusal_line,number_of,line_of,posted_of}
+gone 4 the library's `==`, `min` and `find`: text::word_is exports::length_of asks::kind_of
+4 to or from the document's numbers: lines::{text_refusal,text_number,text_line} decisions::{refusal_number,refusal_line,number_of,line_of,posted_of} \
+text::TextFault.number ledger::Refusal.{number,line} account::DayRefusal.number decisions::reply_of
 4 a kind decoded by ifs: decisions::decode asks::{kind_of,numbers_of}
 4 a call, answer or posting to or from numbers: decisions::{asked_at,commitment_call,record_call} {account,day_calls}::{take_of,settle_at} \
-day_calls::store_call asks::asked_of batch::reply exports::put_posting
+day_calls::{store_call,take_asked} asks::asked_of asks::LineKind.asks batch::reply exports::put_posting
 4 book or offers to or from numbers: numbers::{grains_of,amount_numbers,commitments_of,energies_of,amounts_at,amounts_of,book_by,held_in,put_quantities} \
 numbers::{put_prices,put_offer,put_unit,offer_numbers,offer_in,offers_in,put_amounts} state::kwh_of deviation::deviations_by series::{started,ran_of} \
 exports::{put_commitments,put_marks,put_energies,put_items,put_amounts}
-4 field by field to another type: single::outcome_of account::day_with terms::{terms_of,hour_sheet} engine::changed settlement::plant_of
+4 field by field to another type: single::outcome_of account::day_with terms::{terms_of,unit_terms,hour_sheet} engine::changed settlement::plant_of \
+settlement::UnitHour.availability
 4 a machine number to another: text::wide exports::signed decimal::{size,digit}
+gone 4 the library's `try_from`: exports::signed
+new 4 book or offers to or from numbers: exports::put_held
 4 copied or filled one by one: journal::append apportion::zeros exports::listed
-6 a length beside: ledger::Decision text::Head batch::Batch daybook::Stand own_journal::Carried day_calls::Listed lines::Cursor values::{numbers,value_into}
+6 a length beside: ledger::Decision text::Head batch::Batch daybook::Stand own_journal::Carried day_calls::Listed lines::Cursor values::{numbers,value_into} \
+decimal::Writer daybook::Replay
+gone 6 into a line, whose count is its own: values::numbers
 6 a sorted list searched: offer::block_at
+6 a place in a list: exports::store_all
+6 an hour and a place as one number: listing::is_listed commitments::limit_in
+new 6 an hour and a place as one number: entries::put_commitment
+gone 6 how many units there are, no length of the list: record_lines::read_lines
+no 6 how many lines are read, no length of the list: lines::read_more
 no 6 what include/gozalvek.h fixes: exports::gozalvek_statement
-7 chooses what to run: {sheet_lines,record_lines}::row_at values::value_into exports::carried_out days::file_of daybook::{asked_next,put_turn,put_first_tables}
-7 wraps a call: {single,journal}::{take,release,move_kwh,settle,restate,void_hour,call}
-no 7 a conversion, and an element chosen by ifs: lines::text_refusal values::bound
+7 chooses what to run: {sheet_lines,record_lines}::row_at sheet_lines::SheetRows.row_at record_lines::RecordRows.row_at values::value_into \
+exports::carried_out days::file_of daybook::{asked_next,put_turn,put_first_tables}
+new 7 chooses what to run: values::read_value
+7 wraps a call: {single,journal}::{take,release,move_kwh,settle,restate,void_hour,call} \
+journal::Accounts.{take,release,move_kwh,settle,restate,void_hour,call}
+no 7 a conversion, and an element chosen by ifs: lines::text_refusal values::bound text::TextFault.number
 """
 
 
-def listed(point):
+def lists_at(commit):
+    """The lists for the working tree or a commit: `new` and `gone` count from the pass's beginning on."""
+    if commit and commit.startswith(BEGAN):
+        return re.sub('^(new|gone) .*', '', LISTS, flags=re.M)
+    return re.sub('^gone ', 'no ', re.sub('^new ', '', LISTS, flags=re.M), flags=re.M)
+
+
+def listed(lists, point):
     """What the lists say of a point: by groups, what the named are and their names, with the braces spelled out."""
-    for what, text in re.findall(f'^{point} (.*?): (.*)', LISTS, re.M):
+    for what, text in re.findall(f'^{point} (.*?): (.*)', lists, re.M):
         for group in text.split(';'):
             yield what, {''.join(name) for word in group.split() for name in product(*(part.split(',') for part in re.split('[{}]', word)))}
 
@@ -100,9 +130,10 @@ def split(text, mark, opening='([{', closing=')]}'):
 
 
 def items(path, text):
-    """The types and functions of a source, by crate::name or crate::Type.name. Each ends at the brace under its first letter."""
+    """The types and functions of a source, by crate::name or crate::Type.name. Each ends at the brace under its first letter; what a trait asks for has none."""
     text = text.split('#[cfg(test)]')[0]
-    for m in re.finditer(r'^( *)(?:pub\S* )?(?:const )?(?:extern "C" )?(struct|enum|fn) (\w+)(?![^\n]*[;}]$)(.*?)^\1\}$', text, re.M | re.S):
+    for m in re.finditer(r'^( *)(?:pub\S* )?(?:const )?(?:extern "C" )?(struct|enum|fn) (\w+)(?![^\n]*[;}]$)((?:(?!^ +(?:requires|ensures) [^\n]*;$).)*?)^\1\}$', text,
+                         re.M | re.S):
         indent, form, name, block = m.groups()
         owner = ''
         if indent:
@@ -147,7 +178,8 @@ def marks(item, outcomes, lists):
     bytes_out = '&mut [u8]' in kinds.values()
     numbers = {name for name, kind in kinds.items() if kind == 'usize'}
     order = re.fullmatch('equals|exceeds|lesser|greater|lesser_of|greater_of|least', short)
-    prints = bytes_out and ('at' in numbers or short.startswith('put_'))
+    writes = '&mut Writer' in kinds.values() or '::Writer.put_' in item.name
+    prints = writes or bytes_out and ('at' in numbers or short.startswith('put_'))
     if order or prints or item.name in lists[4]:
         yield 4, item, 'equality or order' if order else 'printing' if prints else lists[4][item.name]
     slices = {name for name, kind in kinds.items() if re.match(r'&(mut )?\[(?!u8)', kind)}
@@ -157,23 +189,23 @@ def marks(item, outcomes, lists):
     if item.name in lists[6] or inside or parallel or sizes and numbers & LENGTHS or bytes_out and re.match(r'\(?usize', item.result):
         yield 6, item, lists[6].get(item.name, 'a place or a length in a list' if inside else 'parallel arrays' if parallel else 'a length beside')
     tests = re.findall(r'if (\w+) == \d+ \{|(key_is)\(', item.body)
-    if item.name in lists[7] or len(tests) > len(set(tests)) or re.search(r'if kind == [1-9]|match kind\b', item.body):
+    if item.name in lists[7] or len(tests) > len(set(tests)) or re.search(r'if kind == [1-9]|match kind\b|match [\w.]+ \{\s*\d+ =>', item.body):
         yield 7, item, lists[7].get(item.name, 'chooses by a number or a key')
 
 
 def is_chain(item):
     """Whether a function is one chain of std's, which is the generic function at its type."""
-    return item.form == 'fn' and ';' not in item.body and re.search(r'\.(all|map|sum)\(|from_fn\(', item.body)
+    return item.form == 'fn' and split(item.body, ';')[1:] == [] and re.search(r'\.(all|map|sum|count)\(|from_fn\(', item.body)
 
 
-def twins(everything):
+def twins(everything, lists):
     """The places of point 2: of each group the members behind the first."""
     groups, alike = [], defaultdict(set)
     for item in (item for item in everything if item.form == 'fn'):  # alike with every name and number the same
         words = re.findall(r'"[^"]*"|\w+|[^\w\s]', '|'.join([*(kind for _, kind in item.params), item.result, item.body]))
         shape = [w if w in KEYWORDS or not re.match(r'["\w]', w) else '0' if w[0].isdigit() else 'name' for w in words]
         alike[*shape, len(shape) < ALIKE and re.split('::|[.]', item.name)[-1]].add(item)
-    for group in [{item for item in everything if item.name in names} for _, names in listed(2)] + list(alike.values()):
+    for group in [{item for item in everything if item.name in names} for _, names in listed(lists, 2)] + list(alike.values()):
         joined = [other for other in groups if other & group]
         groups = [other for other in groups if not other & group] + [group.union(*joined)]
     for group in groups:
@@ -215,10 +247,11 @@ def main():
         if rest[-1] == 'Answers.antt':
             proofs[crate]['answers'] += len(re.findall(r'^(?:(?:abbrev|unfoldable|pub|data|record) )*[^\s:(){}]+ :', text, re.M))
     outcomes = {item.name.split('::')[1] for item in everything if item.form == 'enum' and OUTCOMES & set(dict(item.params))}
-    lists = {point: {name: what for what, names in listed(point) for name in names} for point in (1, 4, 6, 7)}
-    no_place = {(point, name) for point in range(1, 8) for _, names in listed(f'no {point}') for name in names}
+    said = lists_at(options.at)
+    lists = {point: {name: what for what, names in listed(said, point) for name in names} for point in (1, 4, 6, 7)}
+    no_place = {(point, name) for point in range(1, 8) for _, names in listed(said, f'no {point}') for name in names}
     by_itself = (mark for item in everything for mark in marks(item, outcomes, lists))
-    for point, item, what in chain(by_itself, twins(everything), repeated([item for item in everything if item.form == 'fn'])):
+    for point, item, what in chain(by_itself, twins(everything, said), repeated([item for item in everything if item.form == 'fn'])):
         if (point, item.name) not in no_place:
             found[point].add((f'{item.path}:', item.line, f" {item.name.split('::')[1]}: {what}"))
     for crate, lines in proofs.items():
