@@ -15,7 +15,7 @@ pub enum Next {
     Settle(Asked),
 }
 
-// A call of the list, and the place behind it.
+// A call, and the place from which the text goes on; of a record's call that is due in `account` the place of the record.
 #[derive(Clone, Copy)]
 pub struct Step {
     pub asked: Asked,

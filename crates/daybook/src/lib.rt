@@ -138,8 +138,8 @@ fn put_replay(out: &mut Writer, text: &[u8])
     }
 }
 
-// What `replay` prints for a text, as far as `out` has places; the place behind it. The buffer is lent, as that of `account::statement_of`: no library
-// has a heap.
+// What `replay` prints for a text, as far as `out` has places; the place behind it. The buffer is lent, since no library has a heap; a
+// function for this and for `account::statement_of` would take what is printed as a function, and be longer.
 pub fn replay_of(text: &[u8], out: &mut [u8]) -> usize
     ensures result_after { output out.new result ≡ written (output out.old 0) (replayed text.now) }
     ensures upper_bound { result ≤ length out.new }

@@ -32,7 +32,10 @@ fn put_record<W: Write>(out: &mut W, day: Day, at: usize, sheet: &Sheet) -> io::
 // Whether a line that begins with the key `hour` begins at a place.
 fn hour_at(text: &[u8], at: usize) -> bool {
     let begins = at == 0 || text.get(at - 1) == Some(&b'\n');
-    begins && text.get(at..).is_some_and(|rest| rest.starts_with(b"hour="))
+    begins
+        && text
+            .get(at..)
+            .is_some_and(|rest| rest.starts_with(b"hour="))
 }
 
 // The records of a text, behind its sheet.

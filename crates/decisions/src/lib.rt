@@ -1,4 +1,4 @@
-// What each call is decided to be, by value: a call decoded from its numbers, a change of commitments tested, an hour settled, restated or voided
+// What each call is decided to be: a call decoded from its numbers, a change of commitments tested, an hour settled, restated or voided
 // by what the sheet and the book have of it, and the numbers of answers. The crate `ledger` says what is right.
 #![tactic(auto)]
 
@@ -120,7 +120,7 @@ fn record_call(again: bool, asked: Asked) -> Call
     })
 }
 
-// A call by its numbers. The one place where the kinds have numbers, which are the C interface's: 1 take, 2 release, 3 move, 4 settle, 5 restate, 6 void. Another number
+// A call by its numbers. The one place where a kind's number is read; the numbers are the C interface's: 1 take, 2 release, 3 move, 4 settle, 5 restate, 6 void. Another number
 // is a void of hour 0.
 impl From<Asked> for Call {
     #[tactic(auto, unfolding(crate::specs::Calls::decoded))]

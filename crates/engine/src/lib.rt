@@ -1,5 +1,5 @@
 // One engine for every call. A call is carried out on the book and the lent list of postings: `carry_out` tests it, stores what it changes, and appends what it
-// posts. A single call and a list of calls both go through it.
+// posts. A single call, a list of calls and the statement's day go through it.
 #![tactic(auto)]
 
 ghost use Rattle.std.specs.Prelude.{◌≡◌, length};
@@ -101,13 +101,7 @@ fn carry_record(
 }
 
 #[inline(never)]
-fn carry_void(
-    book: &mut Book,
-    list: &mut [Posting],
-    count: u64,
-    sheet: &Sheet,
-    hour: u64,
-) -> Done
+fn carry_void(book: &mut Book, list: &mut [Posting], count: u64, sheet: &Sheet, hour: u64) -> Done
     requires { Ready sheet.now book.old count (length list.old) }
     ensures { left result book.new list.new ≡ carried sheet.now book.old count list.old (void_call hour) }
 {

@@ -22,7 +22,7 @@ pub struct Posting {
     pub amount: i64,
 }
 
-// The postings of one call in their order, then none.
+// The postings of one call in their order, then none. A type of the definitions: no code makes one.
 #[derive(Clone, Copy)]
 pub struct Plan {
     pub row: [Posting; 40],

@@ -24,7 +24,7 @@ pub struct Span {
 
 // What an hour record says of a unit; a unit without a reading is not measured.
 // `repair` stays a number: a record may hold any, and a bool would ask more of those who make one.
-// The spans are the first `spans` of a fixed array: the libraries use no heap, and a record is copied.
+// The spans are the first `spans` of a fixed array: the libraries use no heap.
 #[derive(Clone, Copy)]
 pub struct UnitRecord {
     pub declared: GrossKwh,
@@ -78,7 +78,7 @@ pub fn no_unit() -> UnitRecord
     }
 }
 
-// The record of a refused reading.
+// The empty record, which the definitions have beside a refused text.
 pub fn no_record() -> Record
     ensures { result ≡ no_record }
 {

@@ -1,4 +1,4 @@
--- The row due by what the cells show is the row due by the lines: of the month once it is read, of the units once they are.
+-- The row due by what is kept of the lines is the row due by the lines: of the month once it is read, of the units once they are.
 -- Assumes nothing.
 use mathlib.Core.Path.{◌≡◌, refl, ap, sym, ◌∙◌}
 use mathlib.Core.List.{List}

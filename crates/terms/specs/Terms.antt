@@ -37,7 +37,7 @@ hour_sheet_with sheet hour unit =
 pub hour_sheet : Sheet → ℕ → HourSheet
 hour_sheet sheet hour = hour_sheet_with sheet hour (units_terms sheet (hour - 1))
 
--- `hour_sheet` is opened by this alone; the crates above rest on `hour_units` (proofs/Taken.antt), `hour_by_lem` and `proportions_by_lem` (crate settlement)
+-- `hour_sheet` is opened by this alone, in `terms` and `settlement`; the crates above rest on `hour_units` (proofs/Taken.antt), `hour_by_lem` and `proportions_by_lem` (crate settlement)
 pub hour_sheet_is : (sheet : Sheet) (hour : ℕ) → hour_sheet sheet hour ≡ hour_sheet_with sheet hour (units_terms sheet (hour - 1))
 unfolding hour_sheet
 hour_sheet_is sheet hour = refl

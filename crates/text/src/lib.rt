@@ -138,7 +138,8 @@ pub fn value_of(line: &[u8]) -> &[u8]
     &line[line.len()..]
 }
 
-// Whether a text is the word that stands before a '='. Only the last line of a text has a word, so this one may look for the '=' first.
+// Whether a text is the word that stands before a '='. Few lines of a text are compared with a word, so this one may look for
+// the '=' first.
 pub fn word_is(text: &[u8], word: [u8; 10]) -> bool
     ensures { result ≡ word_is text.now word }
 {
