@@ -64,7 +64,7 @@ pub struct Day {
     pub due: Result<Option<Step>, DayRefusal>,
 }
 
-// What is due at a place.
+// What is due at a place: `day_calls::step_at` goes behind a record at once, here that waits until the record is answered.
 fn due_at(text: &[u8], at: usize) -> Result<Option<Step>, DayRefusal>
     ensures { result ≡ due_at text.now at }
 {
@@ -91,7 +91,8 @@ fn due_after(
 }
 
 // The day behind a sheet that passes 9, over a journal of 2,000 places: each call is carried out as it comes. From the empty book on 12 never comes up, so that
-// neither is tested. Each call takes a byte of the text at least, so no more come than the loop has turns.
+// neither is tested. Each call takes a byte of the text at least, so no more come than the loop has turns. The accounts
+// are made by their fields, as in `journal::run`: a function for it would say in its contract what the fields say.
 fn day_of(sheet: &Sheet, text: &[u8], at: usize) -> Day
     requires { sheet_holds sheet.now ≡ true }
     ensures { result ≡ day_from sheet.now text.now at }

@@ -39,7 +39,8 @@ pub struct PlantHour<'a> {
     ghost in_range: { (net.0 ≤ 8000000) × PlantHolds plant.now },
 }
 
-// A unit in the fill: its ceiling, its energy so far, and its next block if it has room.
+// A unit in the fill: its ceiling, its energy so far, and its next block if it has room. Where there is no room `next` is a block without grains and no
+// `None`: only a unit with room is filled, and `fill` would have to open the Option again.
 #[derive(Clone, Copy)]
 struct Filling {
     ceiling: HubGrains,
@@ -89,7 +90,8 @@ fn weights_of(plant: &Plant, reals: NetKwh) -> [u64; 8]
     array::from_fn(|k| units::member_or(plant.units, k, plant.unit[k].weight(reals), 0))
 }
 
-// Each unit's `real` at the hub, and its share of the excess.
+// Each unit's `real` at the hub, and its share of the excess. Shares and ceilings are lists by place, here and below: each is made of the one before it,
+// and a unit with its share would be a type for one step.
 fn with_shares(plant: &Plant, shares: [u64; 8]) -> [HubGrains; 8]
     requires { ((k : ℕ) → (net_at plant.now k).0 ≤ 1000000) × ((k : ℕ) → k < 8 → get_or shares k 0 ≤ 100000000000) }
     ensures { result ≡ tabulate 8 (λ (k : ℕ). record { 0 = (hub_of (net_at plant.now k) plant.now.loss).0 + get_or shares k 0 }) }

@@ -5,7 +5,8 @@ ghost use Rattle.std.specs.Prelude.{◌≡◌, ◌*◌, ◌/◌, ◌%◌, ◌^�
 ghost use Rattle.finite.specs.Finite.{tabulate};
 ghost use Rattle.apportion.specs.Shares.{sum_of, quotient, remainder, shares as the_shares, largest as the_largest, add_ones, Fits, Due};
 
-// A total to be divided by weights, of which some is over 0: `all` is what they add up to.
+// A total to be divided by weights, of which some is over 0: `all` is what they add up to. The shares are lent beside it:
+// a struct that held them would need in each contract that they are still the same list.
 #[derive(Drop)]
 struct Division<'a> {
     weights: &'a [u64],
@@ -35,7 +36,7 @@ impl Division<'_> {
         0
     }
 
-    // The part with the largest remainder, the lowest of equal ones.
+    // The part with the largest remainder, the lowest of equal ones; the library's `max_by_key` gives the last of equal ones.
     fn largest(&self, shares: &[u64]) -> usize
         requires { (length shares.now ≡ length self.now.weights.now) × (0 < length self.now.weights.now) }
         ensures { result ≡ the_largest (quotient self.now.all self.now.total self.now.weights.now) (remainder self.now.all self.now.total self.now.weights.now) shares.now (length self.now.weights.now) }

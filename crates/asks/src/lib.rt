@@ -90,7 +90,8 @@ impl LineKind {
         }
     }
 
-    // What the line asks for, by its numbers: a call in numbers, as C and the lists of calls of the tests give it. A record begins at `start`, behind its line, and lies in the whole text.
+    // What the line asks for, by its numbers: a call in numbers, so that one decoding, `Call::from`, serves the calls of a
+    // text and of C. A record begins at `start`, behind its line, and lies in the whole text.
     fn asks(self, number: [u64; 24], start: usize, size: usize) -> Asks
         ensures { result ≡ asks_of self number start size }
     {

@@ -88,7 +88,7 @@ fn unit_by(kept: &[Line], j: usize, monthly: GrossKwh) -> UnitRecord
     }
 }
 
-// The unit of place k of the plant.
+// The unit of place k of the plant, which is no place in the list.
 pub fn place_by(kept: &[Line], units: u64, monthly: [GrossKwh; 8], k: usize) -> UnitRecord
     requires { k < 8 }
     ensures { result ≡ place_by (line_in kept.now) units monthly k }

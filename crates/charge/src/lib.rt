@@ -11,6 +11,7 @@ use formulas::{AvailabilityRate, Deviations, KINDS};
 use std::array;
 
 // How a kind is charged: the tenths of its deviation that W takes, 0 where it is not charged, and whether `repair` exempts it.
+// A 0 and no `None`: W takes it as it is.
 #[derive(Clone, Copy)]
 struct KindWeight {
     tenths: u64,

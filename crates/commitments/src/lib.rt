@@ -12,7 +12,8 @@ use ledger::{Effect, Refusal};
 use sheet::Sheet;
 use state::Book;
 
-// What the commitment of an entry, that of hour j / 8 and place j % 8, may not exceed; the tested call has its entry in one number.
+// What the commitment of an entry, that of hour j / 8 and place j % 8, may not exceed. It takes the entry, which is in the book's bounds:
+// hour and unit apart would be tested once more.
 fn limit_in(sheet: &Sheet, j: usize) -> HubKwh
     requires { j < entries }
     ensures { result ≡ limit_at sheet.now (j / places) (j % places) }

@@ -30,6 +30,7 @@ pub struct Listed {
     pub ending: Option<Result<(), TextFault>>,
 }
 
+// Written out: a function for rows of more than one number would take their values one by one and name none.
 fn take_row() -> Row
     ensures { result ≡ take_row }
 {
@@ -45,7 +46,8 @@ fn take_row() -> Row
     }
 }
 
-// The take of a line's numbers, in the form that the list of calls in numbers has, as C would give it.
+// The take of a line's numbers, in the form that the list of calls in numbers has, so that one decoding, `Call::from`, serves the calls
+// of a text and of C.
 fn take_asked(line: &Line) -> Asked
     ensures { result ≡ taken line.now }
 {
@@ -77,7 +79,8 @@ fn settle_at(text: &[u8], at: usize) -> Asked
     }
 }
 
-// What comes at a place of the text: a call, or none at its end. The two keys are tested in turn, as each ends in its own way: a take's line is
+// What comes at a place of the text: a call, or none at its end. A list of calls has lines of seven kinds, and `asks` reads it: the two share `find`,
+// `key_is` and `read_value`. The two keys are tested in turn, as each ends in its own way: a take's line is
 // read here, a record's by those who settle it.
 pub fn next_at(text: &[u8], at: usize) -> Result<Option<Next>, TextFault>
     ensures { result ≡ next_at text.now at }
@@ -128,10 +131,7 @@ fn step_at(text: &[u8], at: usize) -> Result<Option<Step>, TextFault>
 fn ended_by(step: Result<Option<Step>, TextFault>) -> Result<(), TextFault>
     ensures { result ≡ ended_by step }
 {
-    match step {
-        Ok(_) => Ok(()),
-        Err(fault) => Err(fault),
-    }
+    step.map(|_| ())
 }
 
 // The eight numbers of call i: the list is lent, as include/gozalvek.h has it.

@@ -65,7 +65,7 @@ impl Replay<'_> {
         }
     }
 
-    // Total n by unit and item, from 0.
+    // Total n by unit and item, from 0. Two loops, one in the other, are no plainer than one over the 40 totals.
     #[tactic(auto, unfolding(crate::specs::Replay::listed_total))]
     fn put_total(&self, out: &mut Writer, n: usize)
         requires { n < 40 }

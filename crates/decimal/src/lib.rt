@@ -5,8 +5,9 @@ ghost use Rattle.std.specs.Prelude.{◌≡◌, ℕ, ◌+◌, ◌<◌, ◌≤◌,
 ghost use Rattle.decimal.specs.Writer.{Wrote};
 ghost use Rattle.decimal.specs.Decimal.{two_digits, digits, signed, most_number};
 
-// A lent buffer, and the place where the next byte goes. What a `put_` function writes is promised for every buffer, as far as it has room, since C
-// lends one of any length (include/gozalvek.h); std's `write!` and `write_all` promise what a buffer holds only where it has room for all of it.
+// A lent buffer, and the place where the next byte goes. What a function writes through it is promised for every buffer, as far as it has room, since C
+// lends one of any length (include/gozalvek.h); std's `write!` and `write_all` promise what a buffer holds only where it has room for all of it. How far the
+// place goes on at most is promised of each text by itself.
 #[derive(Drop)]
 pub struct Writer<'a> {
     pub buffer: &'a mut [u8],

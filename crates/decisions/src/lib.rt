@@ -36,6 +36,7 @@ pub struct CommitmentCall {
 }
 
 // A settle, or a restate (`again`): the part of the lent text that it is given, from `begin` to before `end`, and where its record starts in that part.
+// A bool is enough: a restate differs from a settle in one test alone. Numbers and no slice: C gives them so, and one text is lent for all calls.
 #[derive(Clone, Copy)]
 pub struct RecordCall {
     pub again: bool,
@@ -53,7 +54,7 @@ pub enum Call {
 }
 
 // A take, release or move: the unit `from` gives `out` and the unit `to` gets `into`. In a take and in a release both are the same unit, and one
-// of the two amounts is 0. `moves` says that it is a move, whose units must differ.
+// of the two amounts is 0. `moves` says that it is a move, whose units must differ: past the decoding that test alone tells a move from the others.
 #[derive(Clone, Copy)]
 pub struct CommitmentChange {
     pub hour: u64,
@@ -139,7 +140,7 @@ impl From<Asked> for Call {
     }
 }
 
-// The text place of a call that is refused: where its record starts in its part of the text, 0 without one, since C gives every answer a place.
+// The text place of a call that is refused: where its record starts in its part of the text, 0 without one, since C gets a place with every answer.
 pub fn start_of(call: Call) -> u64
     ensures { result ≡ call_start call }
 {
@@ -268,7 +269,8 @@ pub fn change_verdict(
     Ok(())
 }
 
-// 42: fewer free places, up to 100,000 in all, than five a unit.
+// 42: fewer free places, up to 100,000 in all, than five a unit. Count and places come as two numbers, here and below: a type of both would be made
+// for each call and taken apart in it.
 fn short_of(units: u64, count: u64, places: usize) -> bool
     ensures { result ≡ short_of units count places }
 {

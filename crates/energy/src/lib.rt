@@ -1,6 +1,7 @@
 // The plant's energies and what is paid for them. Gross, net-at-gate and hub energies are types of their own: each is
 // added, subtracted and compared with its own kind only, and the conversions from one kind to another stand here
-// alone.
+// alone. The four differ in the type alone, which is what they are for. A bound of 10^9 keeps each product in 64 bits; a type of a bounded energy would
+// be made at each conversion and taken apart in it.
 #![tactic(auto)]
 
 ghost use Rattle.std.specs.Prelude.{◌≡◌, ℕ, ◌+◌, ◌*◌, ◌-◌, ◌/◌, ◌^◌, ◌≤◌, ◌<◌};

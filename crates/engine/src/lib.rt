@@ -24,6 +24,7 @@ pub struct Done {
 }
 
 // The list and the count come apart, as the accounts of a day have them: a struct of both would have to say in each contract that it still holds the same list.
+// For the same reason each contract asks for `Ready`, what sheet, book, count and list have to keep among them.
 
 // An accepted settle, restate or void: what its hour's amounts change is posted, and the hour is stored. A refused one changes nothing, and its text place is
 // `start`.

@@ -90,7 +90,8 @@ fn six_spans(given: &[Span]) -> [Span; 6]
     array::from_fn(|i| given.get(i).copied().unwrap_or(record::no_span()))
 }
 
-// The split of the deviation of a unit with an own use of 1 per cent, by its test criterion and its spans: d2 to d8.
+// The split of the deviation of a unit with an own use of 1 per cent, by its test criterion and its spans: d2 to d8. The examples
+// below differ in their figures alone, which is what an example is.
 fn split_example<W: Write>(
     out: &mut W,
     name: &str,

@@ -122,8 +122,8 @@ fn length_of(places: u64) -> usize
     places.min(100040) as usize
 }
 
-// A list of calls under the sheet of a text, over a journal list of so many places. Gives the number of the sheet's refusal, or 0. Each slice is an
-// argument of its own, as include/gozalvek.h has it.
+// A list of calls under the sheet of a text, over a journal list of so many places. Gives the number of the sheet's refusal, or 0. The
+// number and the arguments are as include/gozalvek.h has them, each slice an argument of its own.
 #[unsafe(no_mangle)]
 pub extern "C" fn gozalvek_calls(
     sheet: &[u8],
@@ -157,7 +157,8 @@ pub extern "C" fn gozalvek_calls(
     }
 }
 
-// The statement of a day's text, written from the start of the buffer on as far as it has room; gives how many bytes are written.
+// The statement of a day's text, written from the start of the buffer on as far as it has room; gives how many bytes are written: it is
+// `account::statement_of` under the name that include/gozalvek.h has.
 #[unsafe(no_mangle)]
 pub extern "C" fn gozalvek_statement(text: &[u8], out: &mut [u8]) -> usize
     ensures result_after { output out.new result ≡ filled out.old (statement_of text.now) }

@@ -37,7 +37,8 @@ pub fn read_named<'b, R: Files>(rt: &R, name: &str, buffer: &'b mut [u8]) -> &'b
     }
 }
 
-// The bytes of a file, likewise; of one that cannot be opened none, and the error output says why.
+// The bytes of a file, likewise; of one that cannot be opened none, and the error output says why. Apart from
+// `read_named`, which needs no error output: one function would give both the error, and each caller would match on it.
 pub fn read_or_tell<'b, R: Files + Eprint>(
     rt: &R,
     name: &str,

@@ -17,8 +17,8 @@ pub struct AvailabilityRate {
     ghost in_range: { (cpf ≤ 10000) × (bar ≤ 1000000) },
 }
 
-// A unit's deviation by kind, from kind 2 on, in net kWh at the gate. Kinds are numbers as in a record's spans: a record may hold any, and an enum would ask more
-// of those who make one.
+// A unit's deviation by kind, from kind 2 on, in net kWh at the gate. Kinds are numbers as in a record's spans, from which the split makes them; the formulas name
+// d5 and d7.
 #[derive(Clone, Copy)]
 pub struct Deviations {
     pub kwh: [NetKwh; KINDS],
@@ -34,7 +34,8 @@ impl Deviations {
     }
 }
 
-// An amount that is paid, and one that is owed: the magnitude negated.
+// An amount that is paid, and one that is owed: the magnitude negated. Two, since an item is paid or owed; `try_from` would give a Result that is never
+// refused.
 pub fn paid(magnitude: u64) -> i64
     requires { magnitude < 2 ^ 63 }
     ensures { result ≡ the_paid magnitude }

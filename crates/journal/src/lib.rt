@@ -77,6 +77,7 @@ impl Accounts<'_> {
     fn passes(&self) -> Result<(), Refusal>
         ensures { result ≡ passes self.now.sheet.now (state_in self.now) }
     {
+        // the sum is not looked at, so that any unit and item will do
         self.tested(0, 0)?;
         Ok(())
     }
@@ -191,7 +192,7 @@ impl Accounts<'_> {
         self.perform(b"", Call::Void(hour))
     }
 
-    // Any call, given in numbers.
+    // Any call, given in numbers, as a line of a list of calls has it: as thin as the named ones.
     pub fn call(&mut self, text: &[u8], asked: Asked) -> Done
         ensures { Performs self.old (call_for text.now asked) self.new result }
     {
@@ -250,7 +251,8 @@ fn store_answer(answers: &mut [u64], i: usize, done: Done)
     }
 }
 
-// A list of calls in numbers on the empty book, from the first place of the list on, with the promise about every list of calls.
+// A list of calls in numbers on the empty book, from the first place of the list on, with the promise about every list of calls. The slices are
+// lent one by one, as in `run_on`.
 pub fn run(
     list: &mut [Posting],
     sheet: &Sheet,

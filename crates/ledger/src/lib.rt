@@ -79,7 +79,7 @@ impl Refusal {
         }
     }
 
-    // The line of a refusal 1 to 4, otherwise 0: the other number.
+    // The line of a refusal 1 to 4, otherwise 0: the other number. It looks at one case alone, so it has little in common with `number`.
     pub fn line(self) -> u64
         ensures { result ≡ refusal_line self }
     {
@@ -114,7 +114,7 @@ pub struct Asked {
     pub start: u64,
 }
 
-// What a call answers and leaves, without what it posted.
+// What a call answers and leaves, without what it posted. A type of the definitions: no code makes one.
 #[derive(Clone, Copy)]
 pub struct Outcome {
     pub answer: Result<Effect, Refusal>,

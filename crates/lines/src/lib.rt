@@ -10,7 +10,7 @@ ghost use Rattle.lines.specs.Refusals.{text_number, bad_start, no_start};
 
 use text::{Line, Row, TextFault};
 
-// Why a text is refused, with the line, 0 for its size or the start.
+// Why a text is refused, with the line, 0 for its size or the start: a 0 and no `None`, since C gets a line with every refusal.
 #[derive(Clone, Copy, PartialEq, Eq)]
 pub struct TextRefusal {
     pub fault: TextFault,
@@ -115,7 +115,8 @@ pub trait Frame {
         ensures { (lines : List Line) → Kept kept.now lines → k ≡ length lines → result ≡ due self.now lines };
 }
 
-// n lines more, each by the row that is due.
+// n lines more, each by the row that is due. The readers of sheets and of records promise the same of their own rows: one definition of all of it
+// would take text, rows, cursor and both lists, and be no plainer.
 pub fn read_more<F: Frame>(
     text: &[u8],
     frame: &F,

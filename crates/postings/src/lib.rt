@@ -13,7 +13,8 @@ use settlement::{Amounts, ITEMS};
 use state::Book;
 use std::array;
 
-// An amount posted for a unit's item in an hour, in Rial. Hour, unit and item are counted from 1.
+// An amount posted for a unit's item in an hour, in Rial. Hour, unit and item are counted from 1. The item stays a number: C gets it as
+// one, and a total may ask for any, which refusal 11 tests.
 #[derive(Clone, Copy)]
 pub struct Posting {
     pub hour: u64,
@@ -108,7 +109,8 @@ fn post_unit(list: &mut [Posting], at: usize, hour: u64, k: usize, old: &Amounts
     list[at..at + ITEMS].copy_from_slice(&postings);
 }
 
-// The postings of an hour whose amounts in the book give way to new ones, from a place of the list on: five for each unit of the plant, in order.
+// The postings of an hour whose amounts in the book give way to new ones, from a place of the list on: five for each unit of the plant, in
+// order. The list is lent whole, as in `post_unit`.
 pub fn post_hour(
     list: &mut [Posting],
     at: usize,
@@ -126,6 +128,7 @@ pub fn post_hour(
     let mut next = at;
     for k in 0..8 {
         if units::member_at(units, k) {
+            // only the plant's units have postings, so that k does not tell the place
             post_unit(list, next, hour, k, &book.amounts[8 * h + k], &new[k]);
             next += ITEMS;
         }

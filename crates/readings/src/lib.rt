@@ -10,7 +10,8 @@ use energy::NetKwh;
 use record::Record;
 use std::array;
 
-// The readings of the plant's units, by place; 0 outside the plant and of a unit that is not measured.
+// The readings of the plant's units, by place; 0 outside the plant and of a unit that is not measured. Record and units come apart, here and below: the
+// units are the sheet's, and a type of both would be made for each test and taken apart in it.
 fn readings_of(hour: &Record, units: u64) -> [u64; 8]
     ensures { result ≡ tabulate 8 (place_reading hour.now units) }
 {

@@ -21,6 +21,7 @@ fn head_row(k: usize) -> Row
     }
 }
 
+// Written out, as the row of a take is (`day_calls`).
 fn spans_row() -> Row
     ensures { result ≡ spans_row }
 {

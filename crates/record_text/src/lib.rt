@@ -31,7 +31,7 @@ fn record_by(kept: &[Line; 84], units: u64, monthly: [GrossKwh; 8]) -> Record
 }
 
 // A record from `start` on in a text, of the plant's units with their monthly practical powers: the record and the place after it, or
-// why the text is refused. Units and powers are parts of a sheet; a type of both would be made for this call alone.
+// why the text is refused. Units and powers are parts of a sheet; a type of both would be made for each record and taken apart below.
 pub fn read_record(
     text: &[u8],
     start: u64,

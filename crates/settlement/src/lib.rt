@@ -44,7 +44,8 @@ struct UnitHour<'a> {
 }
 
 impl UnitHour<'_> {
-    // What availability is paid by: two of the rates, whose ranges it needs, so that it is no `From` of them.
+    // What availability is paid by: two of the rates, whose ranges it needs. A `From` of the unit's hour would be no plainer, and not
+    // say what is made.
     fn availability(&self) -> AvailabilityRate
         ensures { (result.cpf ≡ self.now.rates.cpf) × (result.bar ≡ self.now.rates.bar) }
     {

@@ -22,7 +22,8 @@ pub struct UnitSheet {
     pub offers: [Offer; 24],
 }
 
-// One plant's day. Place k of `unit` is that of unit k + 1, which is in the plant where bit k of `units` is 1.
+// One plant's day. Place k of `unit` is that of unit k + 1, which is in the plant where bit k of `units` is 1:
+// a mask and no `Option` at each place, since the text has it as a number, and refusal 9 tests it. `HourSheet` and `Plant` take it over.
 #[derive(Clone, Copy)]
 pub struct Sheet {
     pub month: u64,

@@ -26,6 +26,7 @@ fn head_row(month: u64, k: usize) -> Row
     }
 }
 
+// Written out, as the row of a take is (`day_calls`).
 fn offer_row() -> Row
     ensures { result ≡ offer_row }
 {

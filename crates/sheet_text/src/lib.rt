@@ -19,7 +19,8 @@ pub struct SheetRead {
     pub sheet: Sheet,
 }
 
-// The pairs quantity:price of a line.
+// The pairs quantity:price of a line. No `From`: which lines make a value, and what their numbers are, is the sheet's own, as a record has lines of
+// another order.
 fn offer_by(line: &Line) -> Offer
     ensures { result ≡ offer_by line.now }
 {
@@ -46,7 +47,7 @@ fn unit_by(kept: &[Line; 280], j: usize) -> UnitSheet
     }
 }
 
-// The unit of place k of the plant. A record's blocks are other lines, so the two share only `block_of`.
+// The unit of place k of the plant, which is no place in the list. A record's blocks are other lines, so the two share only `block_of`.
 fn place_by(kept: &[Line; 280], units: u64, k: usize) -> UnitSheet
     requires { k < 8 }
     ensures { result ≡ place_by (line_in kept.now) units k }
@@ -76,7 +77,7 @@ fn sheet_by(kept: &[Line; 280]) -> Sheet
 }
 
 // A sheet from `start` on in a text: the sheet and the place after it, or why the text is refused. A reader for sheets and records would take the
-// reading of the lines and the making of the value as functions, and is no plainer: each is four calls.
+// reading of the lines and the making of the value as functions, and is no plainer: each is four or five calls.
 pub fn read_sheet(text: &[u8], start: u64) -> Result<SheetRead, TextRefusal>
     ensures { told result ≡ read_sheet text.now start }
 {

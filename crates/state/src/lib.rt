@@ -18,7 +18,7 @@ const MOST_ENERGY: HubGrains = HubGrains(80000000000);
 const MOST_AMOUNT: u64 = 100000000000;
 
 // Hour h and place k, which is that of unit k + 1, stand at 8 * h + k. Marks: 0 open, 1 settled; a mark stays a number, since refusal 12
-// tests the marks of any book, and C gives them as numbers. Four lists stand beside one another, since 12 tests each and C is given each.
+// tests the marks of any book, and C gets them as numbers. Four lists stand beside one another, since 12 tests each and C is given each.
 #[derive(Clone, Copy)]
 pub struct Book {
     pub commitment: [HubKwh; 192],
@@ -92,7 +92,7 @@ impl Book {
     }
 }
 
-// A book has as many entries as its type says.
+// A book has as many entries as its type says. It does nothing: a call of it says so in a proof.
 pub fn is_sized(book: Book) -> bool
     ensures { Sized book }
 {
@@ -118,7 +118,8 @@ pub fn limit_of(member: bool, offer: &Offer) -> HubKwh
     }
 }
 
-// Whether no commitment of place k exceeds its limit. An offer is looked at only where there is a commitment: 0 exceeds nothing.
+// Whether no commitment of place k exceeds its limit. An offer is looked at only where there is a commitment: 0 exceeds nothing. Places
+// are indices below 8, as hours below 24.
 fn place_holds(member: bool, unit: &UnitSheet, commitment: &[HubKwh; 192], k: usize) -> bool
     requires { k < places }
     ensures { result ≡ place_holds member unit.now commitment.now k }

@@ -36,7 +36,8 @@ pub struct HourSheet {
     pub unit: [UnitTerms; 8],
 }
 
-// What is used of a unit's sheet in the hour h, from 0; for an hour, so no `From`, as below.
+// What is used of a unit's sheet in the hour h, from 0; for an hour, so no `From`, as below. The hour is an index
+// below 24, as in the book: a type of it would be made for each call and taken apart in it.
 fn unit_terms(unit: &UnitSheet, h: usize) -> UnitTerms
     requires { h < 24 }
     ensures { result ≡ unit_terms unit.now h }

@@ -176,7 +176,8 @@ fn with_digit(n: u64, d: u8, high: u64) -> Option<u64>
     if high < more { None } else { Some(more) }
 }
 
-// The digits of the part that begins at `from`, up to its mark or the end.
+// The digits of the part that begins at `from`, up to its mark or the end. Read digit by digit: the library's `parse` takes a `+` and leading zeros, and
+// a `str` that is cut out first.
 fn digits_at(value: &[u8], from: usize, high: u64) -> Option<Part>
     ensures { result ≡ part_with (from + seek 58 44 (drop from value.now)) (digits high 0 (part_bytes value.now from)) }
 {

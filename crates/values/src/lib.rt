@@ -47,6 +47,7 @@ fn numbers(value: &[u8], row: &Row, line: &mut Line) -> Result<(), TextFault>
     let parts = row.parts;
     let mut from = 0;
     let mut p = 0;
+    // each number says where the next one begins, so that no `for` counts the place
     for k in 0..row.most {
         let part = text::part_at(value, from, element(&row.low, p), element(&row.high, p)).ok_or(
             TextFault::BadValue,
@@ -87,7 +88,8 @@ fn rising(line: &Line) -> bool
     true
 }
 
-// A value by its row: a word, blank, or numbers in their order. After a fault the line holds nothing that counts.
+// A value by its row: a word, blank, or numbers in their order. After a fault the line holds nothing that counts. It looks at the row's
+// fields in turn, since a row has one shape for all lines (`Row`).
 pub fn read_value(value: &[u8], row: &Row, line: &mut Line) -> Result<(), TextFault>
     ensures { into result line.new ≡ value_of row.now value.now }
 {

@@ -13,7 +13,7 @@ use Rattle.allocation.specs.Fill.{grains_at, next_unit, place, fill}
 use Rattle.allocation.specs.Allocation.{past_unit, prices_of}
 use Rattle.allocation.specs.Blocks.{filling_at, given, HasBlock}
 use Rattle.allocation.proofs.Runs.{place_none, none_over}
-use Rattle.allocation.proofs.Rounds.{replaced, given_set, given_at, ceiling_at, same_pick, known, placed, further}
+use Rattle.allocation.proofs.Rounds.{replaced, given_set, given_at, same_pick, known, placed, further}
 use Rattle.allocation.proofs.fill.Goals.{After-min-more, In-Some}
 use Rattle.allocation.proofs.fill.Goals as goal
 
@@ -80,12 +80,6 @@ plus-grains-requires c =
     let m = more-here (goal.at.plus-grains-requires c).After-min-more k in
     let has = none_over (prices_of a.plant.now.unit) (grains_at a.ceilings) 8 (a.total.0 - l.left.0) (given l.fillings) u k.0 l.invariant.2 in
     omega (arith, has, given_at a.plant.now.unit a.ceilings l.fillings l.invariant.3 u k.0, m.1, l.invariant.0, c.well_formed)
-
-pub of-requires : goal.of-requires
-of-requires c =
-    let a = c.args in
-    let k = known-here (goal.at.of-requires c).In-Some in
-    λ l. c.requires c.in-Some.u k.0 (omega (arith, k.1, ceiling_at a.plant.now.unit a.ceilings c.loop-left.fillings c.loop-left.invariant.3 c.in-Some.u k.0))
 
 pub loop-left-smaller : goal.loop-left-smaller
 loop-left-smaller c =

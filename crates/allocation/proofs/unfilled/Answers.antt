@@ -1,16 +1,12 @@
 -- Each unit has its ceiling, no energy and its first block, since that is what is made at its index.
 -- Assumes nothing.
-use Rattle.std.proofs.Common.{rules, arith, ◌≡◌, ap, ℕ, get_or}
+use Rattle.std.proofs.Common.{rules, ◌≡◌, ap, ℕ, get_or}
 use Rattle.energy.specs.declared.HubGrains.{HubGrains}
 use Rattle.allocation.specs.declared.Filling.{Filling}
 use Rattle.allocation.specs.Allocation.{past_unit}
 use Rattle.allocation.specs.Blocks.{no_filling, HasBlock}
-use Rattle.allocation.proofs.Turns.{serves_from_index, each_from_fn}
+use Rattle.allocation.proofs.Turns.{each_from_fn}
 use Rattle.allocation.proofs.unfilled.Goals as goal
-
-pub from_fn-requires : goal.from_fn-requires
-from_fn-requires c =
-    (omega arith, serves_from_index (λ x q k. search rules) (λ x l. let offered = c.requires x l in search (rules, offered)))
 
 pub returns : goal.returns
 returns c =

@@ -18,13 +18,6 @@ loop-step-init c =
     let a = c.args in
     (refl, omega arith, listing_first a.text.now a.from a.calls.now _ c.step_at-step.ensures)
 
-pub loop-step-smaller : goal.loop-step-smaller
-loop-step-smaller c =
-    let l = c.loop-step in
-    let e : ◌≡◌ {A = Stepped} l.step (Ok (Some c.in-Ok-Some.call)) = search rules in
-    let more = l.invariant.2.more _ e in
-    omega (arith, more.0, more.1)
-
 pub loop-step-preserved : goal.loop-step-preserved
 loop-step-preserved c =
     let g = c.args in

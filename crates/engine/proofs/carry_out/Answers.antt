@@ -8,9 +8,3 @@ returns-in-Commitment c =
     let a = c.args in
     rw c.in-Commitment.is
     (commitment_carried a.sheet.now a.book.now _ a.count a.list.now _ c.requires.sized.commitment c.requires.fits _ _ c.from-change.ensures c.change.ensures)
-
-pub returns-in-Record : goal.returns-in-Record
-returns-in-Record c = rw c.in-Record.is c.carry_record.ensures
-
-pub returns-in-Void : goal.returns-in-Void
-returns-in-Void c = rw c.in-Void.is c.carry_void.ensures

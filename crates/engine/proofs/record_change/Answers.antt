@@ -5,7 +5,7 @@ use Rattle.std.specs.Prelude.{Ok}
 use Rattle.std.proofs.lemmas.Result.{err_from_is_err_and}
 use Rattle.record_text.specs.Hour.{RecordTold, read_record}
 use Rattle.ledger.specs.Ledger.{given}
-use Rattle.engine.proofs.HourReady.{refused_text, record_due, record_hour, recorded_by}
+use Rattle.engine.proofs.HourReady.{refused_text, record_due, record_hour}
 use Rattle.engine.proofs.record_change.Goals.{In_ok-r}
 use Rattle.engine.proofs.record_change.Goals as goal
 
@@ -37,10 +37,3 @@ pub decide_record-requires : goal.decide_record-requires
 decide_record-requires c =
     let a = c.args in
     record_due a.sheet.now a.book.now a.count a.places c.requires a.text.now a.start _ _ _ (read (goal.at.decide_record-requires c).In_ok-r) c.commitments-held.ensures c.hour_sheet-day.ensures
-
-pub returns : goal.returns
-returns c =
-    let a = c.args in
-    c.decide_record.ensures
-    ∙ recorded_by a.sheet.now a.book.now a.count a.places c.requires a.text.now a.start a.again _ _ _ _ (read (goal.at.returns c).In_ok-r) c.commitments-held.ensures
-    c.is_settled-settled.ensures c.hour_sheet-day.ensures

@@ -1,6 +1,6 @@
 -- After k turns the first k postings are taken up.
 -- Assumes nothing.
-use Rattle.std.proofs.Common.{◌≡◌, ◌∙◌, ap, arith, add-one, length, get_or}
+use Rattle.std.proofs.Common.{◌∙◌, ap, add-one, get_or}
 use Rattle.std.specs.Prelude.{Option}
 use lib.IntN.{ℤ}
 use Rattle.postings.specs.Journal.{no_posting, scanned_to, scanned_with}
@@ -18,10 +18,3 @@ loop-x-preserved c =
     rw add-one
     (c.scanned_with-sum.ensures
     ∙ ap (λ (s : Option ℤ). scanned_with s (get_or a.list.now l.x-index no_posting) a.unit a.item) l.invariant)
-
-pub returns : goal.returns
-returns c =
-    let a = c.args in
-    let l = c.loop-x in
-    let all : l.x-index ≡ length a.list.now = omega arith in
-    l.invariant ∙ ap (scanned_to a.list.now a.unit a.item) all

@@ -1,11 +1,10 @@
 -- The line at the place is taken in and kept, or its fault ends the reading.
 -- Assumes nothing.
 use Prim.Native.Nat.{ℕ, ◌+◌}
-use mathlib.Core.Path.{◌≡◌, refl, ap, sym, ◌∙◌, subst}
+use mathlib.Core.Path.{◌≡◌, ap, sym, ◌∙◌, subst}
 use mathlib.Core.List.{List, [], ◌∷◌, ◌++◌}
 use native.Mathlib.Omega.{arith}
 use lib.ListN.{length}
-use lib.Seq.{get_or-set_other}
 use Rattle.std.specs.Prelude.{Ok, Err}
 use Rattle.text.specs.declared.Line.{Line}
 use Rattle.lines.specs.declared.Cursor.{Cursor}
@@ -59,11 +58,3 @@ returns-in-Err-clause-cursor c =
 pub returns-in-Err-clause-kept : goal.returns-in-Err-clause-kept
 returns-in-Err-clause-kept c =
     λ s t e kept h. absurd (none_next c.args.text.now c.args.row.now s c.in-Err.fault t (refused (goal.at.returns-in-Err-clause-kept c).In-Err s e) h)
-
--- one line at the most is stored, and at the place due
-pub returns-after-c-kept-clause-elsewhere : goal.returns-after-c-kept-clause-elsewhere
-returns-after-c-kept-clause-elsewhere c =
-    λ j other. elim c.if-c-kept.branch [
-      | then-c-kept w ↦ rw (w.kept-is) (get_or-set_other c.args.kept.now c.args.c.lines j c.line_at.new.read (record { count = 0; number = [] }) other)
-      | else-c-kept w ↦ rw (w.kept-is) refl
-    ]

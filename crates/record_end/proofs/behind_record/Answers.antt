@@ -3,11 +3,8 @@
 use Rattle.record_end.proofs.Behind.{past_all, at_end, goes_on, none_left}
 use native.Mathlib.Omega.{arith}
 use Rattle.record_end.proofs.Behind.{past_all, at_end, goes_on}
-use mathlib.Core.Path.{refl, sym, ◌∙◌}
+use mathlib.Core.Path.{sym, ◌∙◌}
 use Rattle.record_end.proofs.behind_record.Goals as goal
-
-pub loop-at-init : goal.loop-at-init
-loop-at-init c = refl
 
 pub returns-then-text-e : goal.returns-then-text-e
 returns-then-text-e c =

@@ -6,7 +6,7 @@ use mathlib.Core.List.{List}
 use mathlib.Core.Bool.{false}
 use Prim.Native.Nat.{ℕ, ◌+◌, ◌-◌}
 use native.Mathlib.Omega.{arith}
-use lib.Count.{ones, ones-le}
+use lib.Count.{ones}
 use lib.ListN.{length, take, drop, length-drop}
 use Rattle.std.proofs.lemmas.Result.{err_from_is_err_and}
 use Rattle.text.proofs.Walk.{rest}
@@ -43,9 +43,6 @@ returns-in_err-at c =
     let b = not_started _ _ _ (sym c.start_in.ensures ∙ c.in_err-at.was) in
     rw (p.1, p.2)
     (ap {B = RecordTold} (λ (r : TextRefusal). record { answer = Err r; read = no_record }) b.1 ∙ sym (start_bad g.text.now g.start g.units g.monthly b.0))
-
-pub read_lines-requires : goal.read_lines-requires
-read_lines-requires c = omega (arith, c.unit_count-n.ensures, ones-le 64 c.args.units c.ranges.units.fits)
 
 pub overflow_add-result : goal.overflow_add-result
 overflow_add-result c =

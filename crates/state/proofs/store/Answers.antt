@@ -2,12 +2,9 @@
 -- Assumes nothing.
 use Rattle.std.proofs.Common.{◌≡◌, sym, ◌∙◌, ap, subst, set, ◌+◌, ◌<◌, arith}
 use Rattle.state.specs.Sizes.{places, entry_of}
-use Rattle.state.proofs.Entries.{read_within, Stored, stored_none, stored_in, stored_out, stored_all}
+use Rattle.state.proofs.Entries.{read_within, Stored, stored_in, stored_out, stored_all}
 use Rattle.state.proofs.store.Goals.{then-member_at, else-member_at}
 use Rattle.state.proofs.store.Goals as goal
-
-pub loop-k-init : goal.loop-k-init
-loop-k-init g c = λ none. stored_none none c.args.h c.args.units c.args.new.now c.args.all.now c.told-all
 
 pub loop-k-preserved : goal.loop-k-preserved
 loop-k-preserved g c = λ none.

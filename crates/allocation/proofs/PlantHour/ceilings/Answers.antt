@@ -45,9 +45,6 @@ module _ (net reverse : NetKwh) (plant : Plant) (x : HubGrains) (w : List ℕ) w
   unfolding excess_shares
   shares_here e f = ap (λ (w : List ℕ). shares w x.0) f ∙ ap (λ (g : HubGrains). shares (tabulate 8 (weight_at plant)) g.0) e
 
-pub real_sum-reals-requires : goal.real_sum-reals-requires
-real_sum-reals-requires c = real_most c.args.self.now.plant.now c.args.self.now.in_range.1
-
 pub apportion-requires : goal.apportion-requires
 apportion-requires c =
     let f = weights_fit c.args.self.now.plant.now c.args.self.now.in_range.1 c.args.self.now.net c.args.self.now.reverse c.args.self.now.in_range.0 in

@@ -8,7 +8,7 @@ use lib.ListN.{length, length-set, get_or}
 use native.Mathlib.Omega.{arith}
 use Prim.Native.Nat.{ℕ, ◌≤◌, ◌<◌, ◌+◌}
 use mathlib.Core.List.{List}
-use mathlib.Core.Path.{◌≡◌, refl, ap, sym, subst, ◌∙◌}
+use mathlib.Core.Path.{refl, ap, sym, subst, ◌∙◌}
 use Rattle.apportion.proofs.Division.add_ones.Goals.{After-largest-part}
 use Rattle.apportion.proofs.Division.add_ones.Goals as goal
 
@@ -60,11 +60,3 @@ loop-added-preserved c =
           ∙ (ap (λ (x : List ℕ). one_more x (largest q r x (length w))) l.invariant.1
           ∙ sym (add_ones_next q r (length w) l._added g.shares.now)),
     )
-
-pub returns : goal.returns
-returns c =
-    let g = c.args in
-    let d = g.self.now in
-    let w = d.weights.now in
-    let e : c.loop-added._added ≡ g.rest = omega arith in
-    c.loop-added.invariant.1 ∙ ap (λ (k : ℕ). add_ones (quotient d.all d.total w) (remainder d.all d.total w) (length w) k g.shares.now) e

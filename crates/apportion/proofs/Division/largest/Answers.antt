@@ -1,9 +1,8 @@
 -- The loop's invariant: `part` is the definition's for the parts passed, and `most` is what is left of its remainder.
 -- Assumes nothing.
 use Rattle.apportion.proofs.Ones.{largest_one, replaced, kept}
-use Rattle.apportion.specs.Shares.{remainder_left, largest, quotient, remainder}
+use Rattle.apportion.specs.Shares.{remainder_left, quotient, remainder}
 use native.Mathlib.Omega.{arith}
-use Prim.Native.Nat.{ℕ}
 use mathlib.Core.Path.{ap, sym, ◌∙◌}
 use Rattle.apportion.proofs.Division.largest.Goals.{then-most-x, else-most-x}
 use Rattle.apportion.proofs.Division.largest.Goals as goal
@@ -29,8 +28,3 @@ loop-i-preserved c =
         w.most-is ∙ (l.invariant.1 ∙ ap (remainder_left q r g.shares.now) (sym w.part-is)),
       )
     ]
-
-pub returns : goal.returns
-returns c =
-    let d = c.args.self.now in
-    c.loop-i.invariant.0 ∙ ap (λ (n : ℕ). largest (quotient d.all d.total d.weights.now) (remainder d.all d.total d.weights.now) c.args.shares.now n) (omega arith)

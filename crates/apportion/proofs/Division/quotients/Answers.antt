@@ -1,12 +1,11 @@
 -- The loop's invariant: the parts passed have their quotients.
 -- Assumes nothing.
-use Rattle.finite.proofs.Tables.{filled_next, filled}
+use Rattle.finite.proofs.Tables.{filled_next}
 use Rattle.finite.specs.Finite.{tabulate}
 use Rattle.apportion.specs.Shares.{quotient}
-use lib.ListN.{length, length-set}
+use lib.ListN.{length-set}
 use native.Mathlib.Omega.{arith}
-use Prim.Native.Nat.{ℕ}
-use mathlib.Core.Path.{◌≡◌, refl, ap, ◌∙◌}
+use mathlib.Core.Path.{refl}
 use Rattle.apportion.proofs.Division.quotients.Goals as goal
 
 pub loop-i-init : goal.loop-i-init
@@ -18,10 +17,3 @@ loop-i-preserved c =
     let d = c.args.self.now in
     let l = c.loop-i in
     (simp length-set l.invariant.0, filled_next (quotient d.all d.total d.weights.now) l.shares l.i _ (omega arith) l.invariant.1 refl)
-
-pub returns : goal.returns
-returns c =
-    let d = c.args.self.now in
-    let l = c.loop-i in
-    let e : l.i ≡ length d.weights.now = omega arith in
-    filled (quotient d.all d.total d.weights.now) l.shares l.i (omega arith) l.invariant.1 ∙ ap (λ (k : ℕ). tabulate k (quotient d.all d.total d.weights.now)) e

@@ -39,12 +39,6 @@ module _ (u : UnitRecord) (i : ℕ) where
 pub loop-span-init : goal.loop-span-init
 loop-span-init c = counted_none c.args.self.now.own c.args.self.now.hour.now
 
-pub short_minutes-requires : goal.short_minutes-requires
-short_minutes-requires c =
-    let r = reached c.args.self.now.hour.now c.loop-span.span-index c.loop-span-test.true in
-    let s = c.args.self.now.in_range.span c.loop-span.span-index r.below in
-    (rw r.is s.capability, rw r.is s.minutes_most)
-
 pub offset_bounds-sums-kind : goal.offset_bounds-sums-kind
 offset_bounds-sums-kind c = let p = place c.args.self.now.hour.now c.loop-span.span-index _ c.args.self.now.in_range c.loop-span-test.true c.counted_kind-kind.ensures c.if-kind-ge2.true in omega arith
 

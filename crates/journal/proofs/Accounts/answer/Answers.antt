@@ -1,7 +1,7 @@
 -- What refuses every call refuses this one; where nothing does, the engine is ready for it (proofs/Passing.antt).
 -- Assumes nothing.
 use Rattle.std.proofs.Common.{refl, ◌∙◌}
-use Rattle.journal.proofs.Passing.{ready, carried_performed, refused_performed}
+use Rattle.journal.proofs.Passing.{carried_performed, refused_performed}
 use Rattle.journal.proofs.Accounts.answer.Goals as goal
 
 pub returns-in-Err : goal.returns-in-Err
@@ -12,11 +12,6 @@ returns-in-Err c =
       counted = refl;
       same = record { sheet = refl; list = refl };
     }
-
-pub carry_out-done-requires : goal.carry_out-done-requires
-carry_out-done-requires c =
-    let a = c.args.self.now in
-    ready a.sheet.now a.book a.count a.list.now (c.requires.known ∙ c.in_default.is) c.requires.sized
 
 pub returns : goal.returns
 returns c =

@@ -1,13 +1,12 @@
 -- Each turn is one call on what the call before it left (proofs/Turning.antt).
 -- Assumes nothing.
-use Rattle.std.proofs.Common.{◌≡◌, refl, sym, ap, ◌∙◌, arith, length}
+use Rattle.std.proofs.Common.{refl, sym, ap, ◌∙◌}
 use Rattle.ledger.specs.Requests.{call_at}
 use Rattle.decisions.specs.Calls.{call_of}
 use Rattle.decisions.proofs.Calls.{decoded_is}
 use Rattle.journal.specs.Accounts.{Performs}
-use Rattle.journal.specs.Run.{turns_of, ran_all, running}
+use Rattle.journal.specs.Run.{ran_all}
 use Rattle.journal.proofs.Turning.{known_next, ran_next, same_next}
-use Rattle.journal.proofs.Accounts.run_on.Goals.{After-answer-done}
 use Rattle.journal.proofs.Accounts.run_on.Goals as goal
 
 pub loop-i-init : goal.loop-i-init
@@ -30,14 +29,4 @@ loop-i-preserved c =
       ran = ran_next a.calls.now a.text.now a.self.now a.answers.now _ _ _ _ _ _ l.i l.invariant.ran l.invariant.same l.invariant.known p c.store_answer.ensures;
       same = same_next a.self.now l.self _ l.invariant.same p.same;
       known = known_next l.self _ _ _ _ l.invariant.known p;
-    }
-
-pub returns : goal.returns
-returns c =
-    let a = c.args in
-    let l = c.loop-i in
-    let all : l.i ≡ turns_of (length a.calls.now) (length a.answers.now) = omega (arith, c.turns-i-end.ensures) in
-    record {
-      ran = l.invariant.ran ∙ ap (ran_all a.self.now.sheet.now a.calls.now a.text.now (running a.self.now a.answers.now)) all;
-      same = l.invariant.same;
     }

@@ -17,9 +17,6 @@ energies_here c =
     let s = c.args.self.now in
     c.allocate-energy.ensures ∙ ap (energies s.hour.now.net s.hour.now.reverse) c.plant_of-plant.ensures
 
-pub invariant_of-delivered : goal.invariant_of-delivered
-invariant_of-delivered c = let h = c.args.self.now.in_range in record { in_range = (h.net, rw c.plant_of-plant.ensures h.plant) }
-
 pub amounts-requires : goal.amounts-requires
 amounts-requires c =
     let s = c.args.self.now in
