@@ -158,7 +158,8 @@ fn better_of(found: Option<(usize, u64)>, v: usize, price: u64) -> Option<(usize
     found
 }
 
-// The unit with room whose next block is cheapest, the lowest at equal price.
+// The unit with room whose next block is cheapest, the lowest at equal price. Tried with the library's `filter` and `min_by_key`: that what they pick is the
+// unit of the definition did not prove.
 fn cheapest(fillings: &[Filling; 8]) -> Option<usize>
     ensures picked { result ≡ best (next_price fillings.now) (has_room fillings.now) 8 }
     ensures below { (u : ℕ) → result ≡ Some u → u < 8 }
