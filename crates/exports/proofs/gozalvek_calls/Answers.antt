@@ -1,12 +1,8 @@
 -- Where the sheet's text is refused nothing else is written; otherwise the answers are, the book in numbers and the journal list.
 -- Assumes nothing.
 use mathlib.Core.Path.{refl}
-use native.Mathlib.Omega.{arith}
 use Rattle.exports.proofs.Called.{called_refused, called_read}
 use Rattle.exports.proofs.gozalvek_calls.Goals as goal
-
-pub carried_out-ran-requires : goal.carried_out-ran-requires
-carried_out-ran-requires c = omega (arith, c.length_of-n.ensures)
 
 pub returns-in-Err : goal.returns-in-Err
 returns-in-Err c =

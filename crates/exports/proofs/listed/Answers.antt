@@ -1,11 +1,10 @@
 -- After k turns the first k postings are stored; the list is only read.
 -- Assumes nothing.
-use mathlib.Core.Path.{◌≡◌, refl, ap, ◌∙◌}
+use mathlib.Core.Path.{refl, ap, ◌∙◌}
 use mathlib.Core.List.{List}
 use lib.IntN.{ℤ}
-use lib.ListN.{length, get_or}
+use lib.ListN.{get_or}
 use native.Mathlib.Numerals.{add-one}
-use native.Mathlib.Omega.{arith}
 use Rattle.postings.specs.Journal.{no_posting}
 use Rattle.exports.specs.Exports.{posting_stored, listed_to}
 use Rattle.exports.proofs.listed.Goals as goal
@@ -20,9 +19,3 @@ loop-k-preserved c =
     let l = c.loop-k in
     let a = c.args in
     rw add-one (c.put_posting.ensures ∙ ap (λ (x : List ℤ). posting_stored x l.k (get_or a.list.now l.k no_posting)) l.invariant)
-
-pub returns : goal.returns
-returns c =
-    let l = c.loop-k in
-    let all : l.k ≡ length c.args.list.now = omega arith in
-    l.invariant ∙ ap (λ k. listed_to c.args.out.now c.args.list.now k) all

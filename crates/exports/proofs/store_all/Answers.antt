@@ -1,6 +1,6 @@
 -- The loop's invariant: the entries passed are stored.
 -- Assumes nothing.
-use Rattle.std.proofs.Common.{◌≡◌, sym, ap, ◌∙◌, suc, ◌+◌, ◌<◌, ℕ, length, get_or, arith}
+use Rattle.std.proofs.Common.{◌≡◌, sym, ap, ◌∙◌, suc, ◌+◌, ℕ, get_or, arith}
 use Rattle.state.proofs.Entries.{read_within}
 use Rattle.exports.specs.Exports.{put}
 use Rattle.exports.proofs.Put.{put_next, put_none}
@@ -8,9 +8,6 @@ use Rattle.exports.proofs.store_all.Goals as goal
 
 pub loop-k-init : goal.loop-k-init
 loop-k-init g c = λ none. sym (put_none _ _ _)
-
-pub overflow_add-from : goal.overflow_add-from
-overflow_add-from g c = record { fits = omega arith }
 
 pub loop-k-preserved : goal.loop-k-preserved
 loop-k-preserved g c = λ none.
