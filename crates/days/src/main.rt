@@ -62,6 +62,7 @@ fn put_readings<W: Write>(out: &mut W, day: Day) -> io::Result<()> {
     }
 }
 
+// The statement of one of several files, behind its name; `file_bytes::print_answer` is for a program that prints one answer and no more.
 fn put_statement<W: Write>(out: &mut W, day: Day) -> io::Result<()> {
     let mut bytes = [0u8; 32768];
     let n = account::statement_of(day.text, &mut bytes);
