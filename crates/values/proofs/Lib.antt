@@ -1,4 +1,5 @@
 pub mod Values
 pub mod Fits
+pub mod Codes
 pub mod Parts
 pub mod Pairs
