@@ -6,14 +6,14 @@ use mathlib.Core.Bool.{Bool, true, false, cond, ◌||◌}
 use mathlib.Core.List.{List, [], ◌∷◌, ◌++◌}
 use Prim.Native.Nat.{ℕ, suc, ◌+◌, ◌-◌, ◌≤◌, ◌<◌}
 use native.Mathlib.Omega.{arith}
-use borrow.Author.Tests.{le-ltb, lt-ltb, ltb-false}
-use lib.Dec.{ltb}
+use borrow.Author.Tests.{le-ltb, lt-ltb, ltb-false, eqb-true, eqb-false}
+use lib.Dec.{eqb, ltb}
 use lib.ListN.{length, drop, take, set, length-drop, length-append, length-set, get_or-append}
 use lib.Seq.{get_or_at, get_or-set_same, get_or-set_other}
 use Rattle.std.specs.Prelude.{Result, Ok, Err}
 use Rattle.finite.proofs.Sums.{extend}
 use Rattle.values.proofs.Fits.{Fits, value_fits}
-use Rattle.lines.specs.Refusals.{text_number, bad_start, no_start}
+use Rattle.lines.specs.Refusals.{text_number, text_refusal, bad_start, no_start}
 use Rattle.lines.specs.declared.TextRefusal.{TextRefusal}
 use Rattle.text.specs.Text.{fault_number, seek, before, has, value_part, key_is}
 use Rattle.text.specs.Rows.{no_line}
@@ -107,9 +107,24 @@ line_keeps text at row l = by (has 10 (drop at text)) (key_is (before 10 (drop a
     by true false e p m = absurd (not_ok _ _ e)
     by false u e p m = absurd (not_ok _ _ e)
 
+-- a refusal's number is that of its case
+pub refusal_number_lem : (number line : ℕ) → 1 ≤ number → number ≤ 4 → text_number (text_refusal number line) ≡ number
+refusal_number_lem number line a b = by (eqb number 1) refl (eqb number 2) refl (eqb number 3) refl
+  where
+    by : (t : Bool) → eqb number 1 ≡ t → (u : Bool) → eqb number 2 ≡ u → (v : Bool) → eqb number 3 ≡ v
+        → fault_number (cond t NotDue (cond u BadValue (cond v OfferOrder TextEnds))) ≡ number
+    by true e u f v g = sym (eqb-true _ _ e)
+    by false e true f v g = sym (eqb-true _ _ f)
+    by false e false f true g = sym (eqb-true _ _ g)
+    by false e false f false g =
+        let p : number ≡ 1 → ⊥ = eqb-false _ _ e in
+        let q : number ≡ 2 → ⊥ = eqb-false _ _ f in
+        let r : number ≡ 3 → ⊥ = eqb-false _ _ g in
+        omega arith
+
 -- 01, table of refusals, 1 to 4: the number of a text's refusal
-pub refusal_number_lem : (r : TextRefusal) → (1 ≤ text_number r) × (text_number r ≤ 4)
-refusal_number_lem r = by r.fault
+pub refusal_number_in : (r : TextRefusal) → (1 ≤ text_number r) × (text_number r ≤ 4)
+refusal_number_in r = by r.fault
   where
     by : (f : TextFault) → (1 ≤ fault_number f) × (fault_number f ≤ 4)
     by NotDue = (omega arith, omega arith)

@@ -10,6 +10,7 @@ use Rattle.text.specs.declared.Row.{Row}
 use Rattle.text.specs.declared.Line.{Line}
 use Rattle.lines.specs.declared.Cursor.{Cursor}
 use Rattle.lines.specs.declared.TextRefusal.{TextRefusal}
+use Rattle.lines.specs.declared.Stop.{Stop}
 use Rattle.lines.specs.Lines.{Reading, read_line, read_by}
 use Rattle.lines.specs.Cells.{Kept, Stopped, cursor_of, cursors}
 use Rattle.lines.proofs.Due.{by_next, by_refused, by_after}
@@ -50,22 +51,24 @@ module _ (text : List ℕ) (due : List Line → Row) (s : Reading) where
     shown_refused r bad n h =
         by_refused text due (i + 1) (n - (i + 1)) n s r (omega arith) (cursors_err (read_by text due (i + 1) s) r (sym bad ∙ told))
 
-    -- the refused line is the next one, and what is kept stays
-    pub shown_stopped : (r : TextRefusal) → result ≡ Err r → (new : List Line) → (r.line ≡ d.lines + 1) × (new ≡ kept) → Stopped text due s r new
-    shown_stopped r bad new e =
+    -- the refused line is the next one, it begins where the cursor is, and what is kept stays
+    pub shown_stopped : (e : Stop) → result ≡ Err e.refusal → e.at ≡ d.at → (new : List Line) → (e.refusal.line ≡ d.lines + 1) × (new ≡ kept)
+        → Stopped text due s e new
+    shown_stopped e bad here new q =
         record {
           count = i;
           reading = shown.reading;
           read = shown.read;
           next =
-              subst (λ (x : Row). read_line text x shown.reading ≡ Err r) is
-              (cursors_err (read_line text row shown.reading) r (sym bad ∙ cursor shown.reading shown.cursor));
-          line_is = e.0 ∙ ap (λ (x : Cursor). x.lines + 1) shown.cursor;
-          holds = subst (λ (l : List Line). Kept l shown.reading.lines) (sym e.1) shown.holds;
+              subst (λ (x : Row). read_line text x shown.reading ≡ Err e.refusal) is
+              (cursors_err (read_line text row shown.reading) e.refusal (sym bad ∙ cursor shown.reading shown.cursor));
+          line_is = q.0 ∙ ap (λ (x : Cursor). x.lines + 1) shown.cursor;
+          place_is = here ∙ ap (λ (x : Cursor). x.at) shown.cursor;
+          holds = subst (λ (l : List Line). Kept l shown.reading.lines) (sym q.1) shown.holds;
         }
 
   -- a reading that was begun before and then refused
-  pub stopped_later : (n : ℕ) (t : Reading) (r : TextRefusal) (kept : List Line) → read_by text due n s ≡ Ok t → Stopped text due t r kept
+  pub stopped_later : (n : ℕ) (t : Reading) (r : Stop) (kept : List Line) → read_by text due n s ≡ Ok t → Stopped text due t r kept
       → Stopped text due s r kept
   stopped_later n t r kept e x =
       record {
@@ -74,5 +77,6 @@ module _ (text : List ℕ) (due : List Line → Row) (s : Reading) where
         read = by_after text due n x.count (n + x.count) s t refl e ∙ x.read;
         next = x.next;
         line_is = x.line_is;
+        place_is = x.place_is;
         holds = x.holds;
       }

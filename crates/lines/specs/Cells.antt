@@ -5,6 +5,7 @@ use Rattle.text.specs.declared.Line.{Line}
 use Rattle.text.specs.declared.TextFault.{TextFault}
 use Rattle.lines.specs.declared.Cursor.{Cursor}
 use Rattle.lines.specs.declared.TextRefusal.{TextRefusal}
+use Rattle.lines.specs.declared.Stop.{Stop}
 use Rattle.lines.specs.Lines.{Reading, read_line, read_by, line_of}
 
 -- line k as the list has it
@@ -33,16 +34,23 @@ abbrev pub ending : ℕ → Result Line TextFault → Result (Line × ℕ) TextF
 ending next (Ok l) = Ok (l, next)
 ending next (Err f) = Err f
 
--- how many lines are read before a reading ends: all that were due, or those before the refused one
-abbrev pub lines_before : Result Cursor TextRefusal → ℕ
-lines_before (Ok d) = d.lines
-lines_before (Err r) = r.line - 1
+-- why a reading is refused, without the place of the refused line
+abbrev pub refusals : Result Cursor Stop → Result Cursor TextRefusal
+refusals (Ok d) = Ok d
+refusals (Err e) = Err e.refusal
 
--- a reading that goes on from s and is refused: the list holds the lines before the refused one
-pub record Stopped (text : List ℕ) (due : List Line → Row) (s : Reading) (r : TextRefusal) (kept : List Line) : Type 0 where
+-- how many lines are read before a reading ends: all that were due, or those before the refused one
+abbrev pub lines_before : Result Cursor Stop → ℕ
+lines_before (Ok d) = d.lines
+lines_before (Err e) = e.refusal.line - 1
+
+-- a reading that goes on from s and is refused: the place is where the refused line begins, and the list holds the
+-- lines before it
+pub record Stopped (text : List ℕ) (due : List Line → Row) (s : Reading) (e : Stop) (kept : List Line) : Type 0 where
   pub count : ℕ
   pub reading : Reading
   pub read : read_by text due count s ≡ Ok reading
-  pub next : read_line text (due reading.lines) reading ≡ Err r
-  pub line_is : r.line ≡ length reading.lines + 1
+  pub next : read_line text (due reading.lines) reading ≡ Err e.refusal
+  pub line_is : e.refusal.line ≡ length reading.lines + 1
+  pub place_is : e.at ≡ reading.at
   pub holds : Kept kept reading.lines

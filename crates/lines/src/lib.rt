@@ -1,12 +1,12 @@
 // A text read line by line. The reader's state is a cursor by value; the lines read are kept in a lent list of lines.
 #![tactic(auto)]
 
-ghost use Rattle.std.specs.Prelude.{◌≡◌, ◌≢◌, ℕ, List, length, ◌+◌, ◌^◌, ◌≤◌, ◌<◌, cond, IfOk, Ok, Err};
+ghost use Rattle.std.specs.Prelude.{◌≡◌, ◌≢◌, ℕ, List, length, get_or, ◌+◌, ◌^◌, ◌≤◌, ◌<◌, cond, IfOk, Ok, Err};
 ghost use Rattle.text.specs.declared.Row.{Row};
 ghost use Rattle.text.specs.declared.Line.{Line};
 ghost use Rattle.lines.specs.Lines.{Reading, read_line, read_by, line_at, place_after};
-ghost use Rattle.lines.specs.Cells.{line_in, Kept, Stopped, cursor_of, cursors, lines_before, lent, ending};
-ghost use Rattle.lines.specs.Refusals.{text_number, bad_start, no_start};
+ghost use Rattle.lines.specs.Cells.{line_in, Kept, Stopped, cursor_of, cursors, refusals, lines_before, lent, ending};
+ghost use Rattle.lines.specs.Refusals.{text_number, text_refusal, bad_start, no_start};
 
 use text::{Line, Row, TextFault};
 
@@ -26,12 +26,57 @@ impl TextRefusal {
     }
 }
 
+// The refusal of document 01's number, with the line: the numbers 1 to 4 are those of the four faults. No `From`, which
+// takes one value.
+pub fn text_refusal(number: u64, line: u64) -> TextRefusal
+    ensures { result ≡ text_refusal number line }
+{
+    let fault = match number {
+        1 => TextFault::NotDue,
+        2 => TextFault::BadValue,
+        3 => TextFault::OfferOrder,
+        _ => TextFault::TextEnds,
+    };
+    TextRefusal { fault, line }
+}
+
 // How far a text is read: the place of the line due, and how many lines were read before it. The list of lines is lent, so its length is no
 // count of them.
 #[derive(Clone, Copy, PartialEq, Eq)]
 pub struct Cursor {
     pub at: usize,
     pub lines: usize,
+}
+
+// Where a reading of several lines is refused: why, and the place where the refused line begins. Of one line the caller
+// has the place.
+#[derive(Clone, Copy, PartialEq, Eq)]
+pub struct Stop {
+    pub refusal: TextRefusal,
+    pub at: usize,
+}
+
+impl From<Stop> for TextRefusal {
+    ghost from_gives = { λ stop refusal. refusal ≡ stop.refusal };
+
+    fn from(stop: Stop) -> TextRefusal {
+        stop.refusal
+    }
+}
+
+// How many numbers line k of the list has, 0 past the list's end.
+pub fn count_at(kept: &[Line], k: usize) -> usize
+    ensures { result ≡ (line_in kept.now k).count }
+{
+    kept.get(k).map_or(0, |line| line.count)
+}
+
+// Number i of line k of the list, 0 past the list's end.
+pub fn number_at(kept: &[Line], k: usize, i: usize) -> u64
+    requires { i < 24 }
+    ensures { result ≡ get_or (line_in kept.now k).number i 0 }
+{
+    kept.get(k).map_or(0, |line| line.number[i])
 }
 
 // The start of a text.
@@ -116,25 +161,27 @@ pub trait Frame {
 }
 
 // n lines more, each by the row that is due. The readers of sheets and of records promise the same of their own rows: one definition of all of it
-// would take text, rows, cursor and both lists, and be no plainer.
+// would take text, rows, cursor and both lists, and be no plainer. A refused line is one of the n.
 pub fn read_more<F: Frame>(
     text: &[u8],
     frame: &F,
     n: usize,
     c: Cursor,
     kept: &mut [Line],
-) -> Result<Cursor, TextRefusal>
+) -> Result<Cursor, Stop>
     requires n_bound { (n < 10000) × (c.lines < 10000) × (F.room ≤ length kept.old) }
-    ensures cursor { (s : Reading) → c ≡ cursor_of s → Kept kept.old s.lines → result ≡ cursors (read_by text.now (F.due frame.now) n s) }
+    ensures cursor { (s : Reading) → c ≡ cursor_of s → Kept kept.old s.lines → refusals result ≡ cursors (read_by text.now (F.due frame.now) n s) }
     ensures kept { (s : Reading) (t : Reading) → c ≡ cursor_of s → Kept kept.old s.lines → read_by text.now (F.due frame.now) n s ≡ Ok t → Kept kept.new t.lines }
     ensures lines_bound { IfOk result (λ d. d.lines ≡ c.lines + n) }
-    ensures refused { (s : Reading) (r : TextRefusal) → c ≡ cursor_of s → Kept kept.old s.lines → result ≡ Err r → Stopped text.now (F.due frame.now) s r kept.new }
+    ensures lines_most { lines_before result ≤ c.lines + n }
+    ensures refused { (s : Reading) (e : Stop) → c ≡ cursor_of s → Kept kept.old s.lines → result ≡ Err e → Stopped text.now (F.due frame.now) s e kept.new }
     ensures behind { (c.lines ≤ lines_before result) × ((k : ℕ) → lines_before result ≤ k → line_in kept.new k ≡ line_in kept.old k) }
 {
     let mut d = c;
     for i in 0..n {
         let row = frame.row_at(kept, d.lines);
-        d = read_line(text, &row, d, kept)?;
+        let at = d.at;
+        d = read_line(text, &row, d, kept).map_err(|refusal| Stop { refusal, at })?;
     }
     Ok(d)
 }

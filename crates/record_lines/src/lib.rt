@@ -1,12 +1,12 @@
 // The lines of an hour record: the row due at each place, and their reading.
 #![tactic(auto)]
 
-ghost use Rattle.std.specs.Prelude.{◌≡◌, ℕ, ◌≤◌, ◌<◌, get_or, IfOk, Ok, Err};
+ghost use Rattle.std.specs.Prelude.{◌≡◌, ℕ, ◌≤◌, ◌<◌, get_or, Ok, Err};
 ghost use Rattle.lines.specs.Lines.{Reading, begin};
-ghost use Rattle.lines.specs.Cells.{line_in, Kept, Stopped, cursors, lines_before};
+ghost use Rattle.lines.specs.Cells.{line_in, Kept, Stopped, cursors, refusals, lines_before};
 ghost use Rattle.record_lines.specs.Rows.{head_rows, unit_rows, spans_row, end_row, row_at, due_row, read_lines};
 
-use lines::{Cursor, Frame, TextRefusal};
+use lines::{Cursor, Frame, Stop};
 use text::{Line, Row};
 
 // Line k of the head, from 0. A table of rows is no plainer: a row of it takes ten lines.
@@ -85,12 +85,12 @@ impl Frame for RecordRows {
 }
 
 // The lines of a record that begins where the text does, in a plant of n units.
-pub fn read_lines(text: &[u8], n: usize, kept: &mut [Line]) -> Result<Cursor, TextRefusal>
+pub fn read_lines(text: &[u8], n: usize, kept: &mut [Line]) -> Result<Cursor, Stop>
     requires n_bound { n ≤ 64 }
-    ensures cursor { result ≡ cursors (read_lines text.now n) }
+    ensures cursor { refusals result ≡ cursors (read_lines text.now n) }
     ensures kept { (s : Reading) → read_lines text.now n ≡ Ok s → Kept kept.new s.lines }
-    ensures lines_bound { IfOk result (λ d. d.lines < 10000) }
-    ensures refused { (r : TextRefusal) → result ≡ Err r → Stopped text.now (due_row n) begin r kept.new }
+    ensures lines_bound { lines_before result < 10000 }
+    ensures refused { (e : Stop) → result ≡ Err e → Stopped text.now (due_row n) begin e kept.new }
     ensures behind { (k : ℕ) → lines_before result ≤ k → line_in kept.new k ≡ line_in kept.old k }
 {
     lines::read_more(text, &RecordRows { n }, 3 + 9 * n + 1, lines::start(), kept)

@@ -14,7 +14,7 @@ use Rattle.std.specs.Prelude.{Result, Ok, Err}
 use Rattle.text.specs.declared.Line.{Line}
 use Rattle.lines.specs.declared.TextRefusal.{TextRefusal}
 use Rattle.lines.specs.Lines.{Reading, line_of}
-use Rattle.lines.proofs.Reading.{start_within, refusal_number_lem}
+use Rattle.lines.proofs.Reading.{start_within, refusal_number_in}
 use Rattle.lines.specs.Cells.{line_in, Kept}
 use Rattle.lines.specs.Refusals.{text_number, no_start, bad_start, answer_of}
 use Rattle.record_text.specs.Hour.{RecordTold}
@@ -98,4 +98,4 @@ module _ (text : List ℕ) (start units : ℕ) (monthly : List GrossKwh) where
 
 -- the number of a refusal of a text
 pub refused_number : (r : TextRefusal) → (1 ≤ text_number r) × (text_number r ≤ 4)
-refused_number r = refusal_number_lem r
+refused_number r = refusal_number_in r

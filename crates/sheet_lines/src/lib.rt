@@ -1,13 +1,13 @@
 // The lines of a day sheet: the row due at each place, and their reading.
 #![tactic(auto)]
 
-ghost use Rattle.std.specs.Prelude.{◌≡◌, ℕ, ◌≤◌, ◌<◌, length, get_or, IfOk, Ok, Err};
+ghost use Rattle.std.specs.Prelude.{◌≡◌, ℕ, ◌≤◌, ◌<◌, length, get_or, Ok, Err};
 ghost use Rattle.std.specs.Int.Count.{ones};
 ghost use Rattle.lines.specs.Lines.{Reading, begin, number_of};
-ghost use Rattle.lines.specs.Cells.{line_in, Kept, Stopped, cursors, lines_before};
+ghost use Rattle.lines.specs.Cells.{line_in, Kept, Stopped, cursors, refusals, lines_before};
 ghost use Rattle.sheet_lines.specs.Rows.{head_rows, unit_rows, offer_row, end_row, row_at, due_row, read_lines};
 
-use lines::{Cursor, Frame, TextRefusal};
+use lines::{Cursor, Frame, Stop};
 use text::{Line, Row};
 
 // Line k of the head, from 0. A table of rows is no plainer: a row of it takes ten lines, and the row of the day goes by the month.
@@ -62,13 +62,19 @@ fn end_row() -> Row
     text::word_row(*b"end=======", *b"sheet=====")
 }
 
+// The first number of line k of the list, 0 past the list's end.
+pub fn first_at(kept: &[Line], k: usize) -> u64
+    ensures { result ≡ number_of (line_in kept.now k) }
+{
+    lines::number_at(kept, k, 0)
+}
+
 // The number of units, once the line `units` is read.
 fn units_read(kept: &[Line]) -> usize
-    requires { 30 ≤ length kept.now }
     ensures value { result ≡ ones (number_of (line_in kept.now 29)) }
     ensures upper_bound { result ≤ 64 }
 {
-    kept[29].number[0].count_ones() as usize
+    first_at(kept, 29).count_ones() as usize
 }
 
 // The rows of a sheet: the month and the units come from its own lines. A frame of head, blocks and end for both texts would ask for three rows, two
@@ -83,7 +89,7 @@ impl Frame for SheetRows {
 
     fn row_at(&self, kept: &[Line], k: usize) -> Row {
         if k < 30 {
-            head_row(kept[0].number[0], k)
+            head_row(first_at(kept, 0), k)
         } else if (k - 30) / 27 < units_read(kept) {
             unit_row((k - 30) % 27)
         } else {
@@ -93,12 +99,12 @@ impl Frame for SheetRows {
 }
 
 // The lines of a sheet that begins where the text does.
-pub fn read_lines(text: &[u8], kept: &mut [Line]) -> Result<Cursor, TextRefusal>
+pub fn read_lines(text: &[u8], kept: &mut [Line]) -> Result<Cursor, Stop>
     requires in_bounds { 30 ≤ length kept.old }
-    ensures cursor { result ≡ cursors (read_lines text.now) }
+    ensures cursor { refusals result ≡ cursors (read_lines text.now) }
     ensures kept { (s : Reading) → read_lines text.now ≡ Ok s → Kept kept.new s.lines }
-    ensures lines_bound { IfOk result (λ d. d.lines < 10000) }
-    ensures refused { (r : TextRefusal) → result ≡ Err r → Stopped text.now due_row begin r kept.new }
+    ensures lines_bound { lines_before result < 10000 }
+    ensures refused { (e : Stop) → result ≡ Err e → Stopped text.now due_row begin e kept.new }
     ensures behind { (k : ℕ) → lines_before result ≤ k → line_in kept.new k ≡ line_in kept.old k }
 {
     let head = lines::read_more(text, &SheetRows, 30, lines::start(), kept)?;

@@ -2,7 +2,6 @@
 -- Assumes nothing.
 use mathlib.Core.Path.{ap}
 use native.Mathlib.Omega.{arith}
-use Rattle.std.proofs.lemmas.Result.{IfOk-weaker}
 use Rattle.lines.specs.declared.Cursor.{Cursor}
 use Rattle.lines.specs.Lines.{begin}
 use Rattle.lines.proofs.Shown.{none_kept}
@@ -17,7 +16,7 @@ returns c =
     record {
       cursor = m.ensures.cursor begin c.start.ensures none;
       kept = λ s e. m.ensures.kept begin s c.start.ensures none e;
-      lines_bound = IfOk-weaker m.result _ _ (λ d e. omega (arith, e, ap (λ (x : Cursor). x.lines) c.start.ensures, c.requires.n_bound)) m.ensures.lines_bound;
+      lines_bound = omega (arith, m.ensures.lines_most, ap (λ (x : Cursor). x.lines) c.start.ensures, c.requires.n_bound);
       refused = λ r e. m.ensures.refused begin r c.start.ensures none e;
       behind = m.ensures.behind.1;
     }

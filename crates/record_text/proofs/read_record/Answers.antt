@@ -12,7 +12,7 @@ use Rattle.std.proofs.lemmas.Result.{err_from_is_err_and}
 use Rattle.text.proofs.Walk.{rest}
 use Rattle.lines.specs.declared.Cursor.{Cursor}
 use Rattle.lines.specs.declared.TextRefusal.{TextRefusal}
-use Rattle.lines.specs.Cells.{cursors}
+use Rattle.lines.specs.Cells.{cursors, refusals}
 use Rattle.lines.specs.Refusals.{bad_start, answer_of}
 use Rattle.lines.proofs.Reading.{start_within, started, not_started}
 use Rattle.lines.proofs.Cursors as cursor
@@ -32,7 +32,7 @@ begun c = started _ _ _ (sym c.start_in.ensures ∙ c.in_ok-at.was)
 part : (text : List ℕ) (start at : ℕ) → at ≡ start → take (length text - at) (drop at text) ≡ drop start text
 part text start at e = rest text at ∙ ap (λ (n : ℕ). drop n text) e
 
-read : (c : After-read_lines) → c.in_ok-at.at ≡ c.args.start → c.read_lines.result ≡ cursors (read_lines (drop c.args.start c.args.text.now) (ones c.args.units))
+read : (c : After-read_lines) → c.in_ok-at.at ≡ c.args.start → refusals c.read_lines.result ≡ cursors (read_lines (drop c.args.start c.args.text.now) (ones c.args.units))
 read c e =
     c.read_lines.ensures.cursor ∙ (λ i. cursors (read_lines (part c.args.text.now c.args.start c.in_ok-at.at e i) (c.unit_count-n.ensures i)))
 
@@ -48,7 +48,7 @@ pub overflow_add-result : goal.overflow_add-result
 overflow_add-result c =
     let g = c.args in
     let b = begun (goal.at.overflow_add-result c).In_ok-at in
-    let x = cursor.cursors_ok _ _ (sym c.in_ok-c.was ∙ read (goal.at.overflow_add-result c).After-read_lines b.1) in
+    let x = cursor.cursors_ok _ _ (sym (ap refusals c.in_ok-c.was) ∙ read (goal.at.overflow_add-result c).After-read_lines b.1) in
     let w = start_within g.text.now g.start b.0 in
     omega (arith, b.1, w, ap (λ (x : Cursor). x.at) x.cursor, place_in (drop g.start g.text.now) (ones g.units) x.reading x.read, length-drop g.start g.text.now)
 
@@ -56,7 +56,7 @@ pub returns : goal.returns
 returns c =
     let g = c.args in
     let b = begun (goal.at.returns c).In_ok-at in
-    let x = cursor.cursors_ok _ _ (sym c.in_ok-c.was ∙ read (goal.at.returns c).After-read_lines b.1) in
+    let x = cursor.cursors_ok _ _ (sym (ap refusals c.in_ok-c.was) ∙ read (goal.at.returns c).After-read_lines b.1) in
     let t = drop g.start g.text.now in
     let here : read_lines (take (length g.text.now - c.in_ok-at.at) (drop c.in_ok-at.at g.text.now)) c.unit_count-n.result ≡ read_lines t (ones g.units) =
     λ i. read_lines (part g.text.now g.start c.in_ok-at.at b.1 i) (c.unit_count-n.ensures i) in
@@ -72,7 +72,7 @@ pub returns-in_err-c : goal.returns-in_err-c
 returns-in_err-c c =
     let g = c.args in
     let b = begun (goal.at.returns-in_err-c c).In_ok-at in
-    let e = cursor.cursors_err _ _ (sym c.in_err-c.was ∙ read (goal.at.returns-in_err-c c).After-read_lines b.1) in
+    let e = cursor.cursors_err _ _ (sym (ap refusals c.in_err-c.was) ∙ read (goal.at.returns-in_err-c c).After-read_lines b.1) in
     let p = err_from_is_err_and c.from_residual-in_err-c.result c.from_residual-in_err-c.ensures.1 in
     rw (p.1, p.2)
     ((λ i. record { answer = answer_of g.start (sym e i); read = record_of (sym e i) g.units g.monthly })

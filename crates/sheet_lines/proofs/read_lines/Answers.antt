@@ -5,12 +5,13 @@ use mathlib.Core.Path.{◌≡◌, refl, ap, sym, ◌∙◌, subst}
 use native.Mathlib.Omega.{arith}
 use lib.Count.{ones}
 use Rattle.std.specs.Prelude.{List, Ok, Err}
-use Rattle.std.proofs.lemmas.Result.{err_from_is_err_and, IfOk-at_ok, IfOk-weaker}
+use Rattle.std.proofs.lemmas.Result.{err_from_is_err_and, IfOk-at_ok}
 use Rattle.text.specs.declared.Line.{Line}
 use Rattle.lines.specs.declared.Cursor.{Cursor}
 use Rattle.lines.specs.declared.TextRefusal.{TextRefusal}
+use Rattle.lines.specs.declared.Stop.{Stop}
 use Rattle.lines.specs.Lines.{Reading, begin, read_by, number_of}
-use Rattle.lines.specs.Cells.{Kept, Stopped, cursors, lines_before}
+use Rattle.lines.specs.Cells.{Kept, Stopped, cursors, refusals, lines_before}
 use Rattle.lines.proofs.Reading.{not_ok, same_err}
 use Rattle.lines.proofs.Cursors.{Read, cursors_ok, cursors_err}
 use Rattle.lines.proofs.Due.{onward}
@@ -28,10 +29,11 @@ good_head : (text : List ℕ) (h : Reading) → read_by text due_row 30 begin �
 unfolding read_lines
 good_head text h e n q = rw (e, q) refl
 
-bad : (c : After-read_more) (r : TextRefusal) → c.read_more.result ≡ Err r → read_lines c.args.text.now ≡ Err r
-bad c r e =
-    refused_head c.args.text.now r
-    (cursors_err (read_by c.args.text.now due_row 30 begin) r (sym e ∙ c.read_more.ensures.cursor begin c.start.ensures (none_kept c.args.kept.now)))
+bad : (c : After-read_more) (f : Stop) → c.read_more.result ≡ Err f → read_lines c.args.text.now ≡ Err f.refusal
+bad c f e =
+    refused_head c.args.text.now f.refusal
+    (cursors_err (read_by c.args.text.now due_row 30 begin) f.refusal
+    (sym (ap refusals e) ∙ c.read_more.ensures.cursor begin c.start.ensures (none_kept c.args.kept.now)))
 
 pub returns-in_err-head : goal.returns-in_err-head
 returns-in_err-head c =
@@ -39,18 +41,19 @@ returns-in_err-head c =
     let e = bad (goal.at.returns-in_err-head c).After-read_more c.in_err-head.field-0.0 c.in_err-head.was in
     let f = c.in_err-head.field-0.0 in
     let m = c.read_more in
+    let q = ap lines_before c.in_err-head.was in
     rw (p.1, p.2) (record {
       cursor = ap cursors (sym e);
       kept = λ s h. absurd (not_ok _ _ (sym e ∙ h));
-      lines_bound = tt;
-      refused = λ r h. subst (λ (x : TextRefusal). Stopped c.args.text.now due_row begin x m.new.kept) (same_err _ _ h)
+      lines_bound = omega (arith, q, m.ensures.lines_most, ap (λ (x : Cursor). x.lines) c.start.ensures);
+      refused = λ r h. subst (λ (x : Stop). Stopped c.args.text.now due_row begin x m.new.kept) (same_err _ _ h)
           (m.ensures.refused begin f c.start.ensures (none_kept c.args.kept.now) c.in_err-head.was);
-      behind = λ k h. m.ensures.behind.1 k (let q = ap lines_before c.in_err-head.was in omega (arith, q));
+      behind = λ k h. m.ensures.behind.1 k (omega (arith, q));
     })
 
 -- the head, and what is kept of it
 head : (c : In_ok-head) → Read (read_by c.args.text.now due_row 30 begin) c.in_ok-head.head
-head c = cursors_ok _ c.in_ok-head.head (sym c.in_ok-head.was ∙ c.read_more.ensures.cursor begin c.start.ensures (none_kept c.args.kept.now))
+head c = cursors_ok _ c.in_ok-head.head (sym (ap refusals c.in_ok-head.was) ∙ c.read_more.ensures.cursor begin c.start.ensures (none_kept c.args.kept.now))
 
 held : (c : In_ok-head) (h : Read (read_by c.args.text.now due_row 30 begin) c.in_ok-head.head) → Kept c.read_more.new.kept h.reading.lines
 held c h = c.read_more.ensures.kept begin h.reading c.start.ensures (none_kept c.args.kept.now) h.read
@@ -75,5 +78,5 @@ returns c =
       behind = λ k b.
           let q = ap lines_before c.in_ok-head.was in
           m.ensures.behind.1 k b ∙ c.read_more.ensures.behind.1 k (omega (arith, q, m.ensures.behind.0));
-      lines_bound = IfOk-weaker m.result _ _ (λ d e. omega (arith, e, few, c.units_read.ensures.upper_bound)) m.ensures.lines_bound;
+      lines_bound = omega (arith, m.ensures.lines_most, few, c.units_read.ensures.upper_bound);
     }
