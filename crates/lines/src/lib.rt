@@ -64,7 +64,8 @@ impl From<Stop> for TextRefusal {
     }
 }
 
-// How many numbers line k of the list has, 0 past the list's end.
+// How many numbers line k of the list has, 0 past the list's end. This and the next take list and place, since no line
+// stands past the end; each is one call, and one function of both is no plainer.
 pub fn count_at(kept: &[Line], k: usize) -> usize
     ensures { result ≡ (line_in kept.now k).count }
 {

@@ -62,7 +62,7 @@ fn end_row() -> Row
     text::word_row(*b"end=======", *b"sheet=====")
 }
 
-// The first number of line k of the list, 0 past the list's end.
+// The first number of line k of the list, 0 past the list's end, where no line stands to take it of.
 pub fn first_at(kept: &[Line], k: usize) -> u64
     ensures { result ≡ number_of (line_in kept.now k) }
 {
