@@ -71,7 +71,7 @@ impl KindWeight {
     // What q takes of it: nothing of a kind without a weight.
     #[tactic(auto, using(std::proofs::lemmas::Bool::Decides::nat_tests))]
     fn in_q(self, deviation: NetKwh, repaired: bool) -> NetKwh
-        ensures { result ≡ record { 0 = in_q self deviation repaired } }
+        ensures { result.0 ≡ in_q self deviation repaired }
     {
         if self.tenths == 0 {
             return NetKwh(0);
