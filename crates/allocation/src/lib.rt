@@ -57,10 +57,10 @@ pub fn plant_energy(net: NetKwh, reverse: NetKwh, loss: u64) -> HubGrains
 }
 
 // `real` of the plant's units, by place; 0 outside the plant.
-fn reals_of(plant: &Plant) -> [u64; 8]
-    ensures { result ≡ tabulate 8 (λ (k : ℕ). (net_at plant.now k).0) }
+fn reals_of(plant: &Plant) -> [NetKwh; 8]
+    ensures { result ≡ tabulate 8 (net_at plant.now) }
 {
-    array::from_fn(|k| units::member_or(plant.units, k, plant.unit[k].real, NetKwh(0)).0)
+    array::from_fn(|k| units::member_or(plant.units, k, plant.unit[k].real, NetKwh(0)))
 }
 
 // R: the sum of `real` over the plant's units.
@@ -68,7 +68,7 @@ fn real_sum(plant: &Plant) -> NetKwh
     requires { (k : ℕ) → (net_at plant.now k).0 ≤ 1000000 }
     ensures { result ≡ real_sum plant.now }
 {
-    NetKwh(reals_of(plant).iter().sum())
+    energy::total(&reals_of(plant))
 }
 
 impl PlantUnit {

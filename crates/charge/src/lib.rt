@@ -70,13 +70,13 @@ impl KindWeight {
 
     // What q takes of it: nothing of a kind without a weight.
     #[tactic(auto, using(std::proofs::lemmas::Bool::Decides::nat_tests))]
-    fn in_q(self, deviation: NetKwh, repaired: bool) -> u64
-        ensures { result ≡ in_q self deviation repaired }
+    fn in_q(self, deviation: NetKwh, repaired: bool) -> NetKwh
+        ensures { result.0 ≡ in_q self deviation repaired }
     {
         if self.tenths == 0 {
-            return 0;
+            return NetKwh(0);
         }
-        self.counted(deviation, repaired).amount()
+        self.counted(deviation, repaired)
     }
 
     // What W takes of it.
@@ -90,8 +90,8 @@ impl KindWeight {
 
 // What q takes of each kind.
 #[tactic(auto, unfolding(crate::specs::Test::kind_weights, crate::specs::Test::kind_weight))]
-fn counted_parts(d: Deviations, repaired: bool) -> [u64; KINDS]
-    ensures { result ≡ tabulate kinds (q_part d repaired) }
+fn counted_parts(d: Deviations, repaired: bool) -> [NetKwh; KINDS]
+    ensures { result ≡ tabulate kinds (λ (j : ℕ). record { 0 = q_part d repaired j }) }
 {
     array::from_fn(|j| KIND_WEIGHTS[j].in_q(d.kwh[j], repaired))
 }
@@ -101,7 +101,7 @@ pub fn counted_deviation(d: Deviations, repair: u64) -> NetKwh
     requires { (counted_deviation d repair).0 < 2 ^ 64 }
     ensures { result ≡ counted_deviation d repair }
 {
-    NetKwh(counted_parts(d, repair != 0).iter().sum())
+    energy::total(&counted_parts(d, repair != 0))
 }
 
 // Whether the counted deviation is charged: over 2,000 kWh, or twenty times it over the reading; of an unmeasured unit, twenty times it

@@ -4,7 +4,7 @@
 // be made at each conversion and taken apart in it.
 #![tactic(auto)]
 
-ghost use Rattle.std.specs.Prelude.{◌≡◌, ℕ, ◌+◌, ◌*◌, ◌-◌, ◌/◌, ◌^◌, ◌≤◌, ◌<◌};
+ghost use Rattle.std.specs.Prelude.{◌≡◌, ℕ, ◌+◌, ◌*◌, ◌-◌, ◌/◌, ◌^◌, ◌≤◌, ◌<◌, sum_by};
 ghost use Rattle.energy.specs.Energy.{net_of, hub_of, gate_of, grains_of, pay_of};
 
 // Gross energy in kWh.
@@ -107,6 +107,14 @@ impl Energy for HubGrains {
         let HubGrains(grains) = self;
         grains
     }
+}
+
+// What energies of one kind add up to.
+pub fn total<E: Energy>(energies: &[E]) -> E
+    requires { sum_by E.amount energies.now < 2 ^ 64 }
+    ensures { E.amount result ≡ sum_by E.amount energies.now }
+{
+    E::of(energies.iter().map(|e| e.amount()).sum())
 }
 
 // Net of gross: less the unit's own use, in ten-thousandths.

@@ -57,7 +57,7 @@ impl Step {
     fn in_range(self) -> bool
         ensures { result ≡ in_range self }
     {
-        (1..=1000000).contains(&self.quantity.0) && self.price <= 10000000
+        HubKwh(1) <= self.quantity && self.quantity <= HubKwh(1000000) && self.price <= 10000000
     }
 
     // Whether the next step may follow it: its own quantity is less, its own price no more.

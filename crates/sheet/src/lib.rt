@@ -92,8 +92,9 @@ fn unit_holds(u: &UnitSheet) -> bool
     ensures { result ≡ unit_holds u.now }
 {
     u.own <= 2000
-        && (1..=1000000).contains(&u.nominal.0)
-        && u.monthly.0 <= 1000000
+        && GrossKwh(1) <= u.nominal
+        && u.nominal <= GrossKwh(1000000)
+        && u.monthly <= GrossKwh(1000000)
         && offers_hold(u)
 }
 
