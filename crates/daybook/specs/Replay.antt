@@ -3,6 +3,7 @@
 use Rattle.std.specs.Prelude.{Option, Some, None, Result, Ok, Err}
 use Rattle.text.specs.declared.TextFault.{TextFault}
 use Rattle.lines.specs.declared.TextRefusal.{TextRefusal}
+use Rattle.lines.specs.Refusals.{text_number}
 use Rattle.std.specs.Prelude.{◌≡◌, ℕ, zero, suc, ◌+◌, ◌/◌, ◌%◌, List, [], ◌++◌, replicate}
 use Rattle.sheet.specs.declared.Sheet.{Sheet}
 use Rattle.sheet_text.specs.Day.{read_sheet}
@@ -112,7 +113,7 @@ last_tables sheet c = tables sheet.units c.book ++ joined 40 (listed_total sheet
 -- at the end of the text the tables; "A line that is no call ends the run (..) and no tables."
 unfoldable pub ending : Sheet → Course → Option TextRefusal → List ℕ
 ending sheet c None = last_tables sheet c
-ending sheet c (Some r) = stop_line r
+ending sheet c (Some r) = stop_line r.line (text_number r)
 
 unfoldable pub call_lines : Sheet → List ℕ → Course → Extent → List ℕ
 call_lines sheet text c e = joined e.calls (nth_line sheet text c) ++ ending sheet (steps sheet text c e.calls) e.stop

@@ -93,7 +93,7 @@ impl Replay<'_> {
     {
         match stop {
             None => self.put_last_tables(out),
-            Some(refusal) => entries::put_stop(out, refusal),
+            Some(refusal) => entries::put_stop(out, refusal.line, refusal.number()),
         }
     }
 

@@ -4,7 +4,6 @@ use Rattle.decimal.specs.Decimal.{digits, signed}
 use Rattle.text.specs.Text.{before}
 use Rattle.text.specs.Bytes.{bytes}
 use Rattle.lines.specs.declared.TextRefusal.{TextRefusal}
-use Rattle.lines.specs.Refusals.{text_number}
 use Rattle.ledger.specs.declared.Refusal.{Refusal}
 use Rattle.ledger.specs.declared.Refusal.TheVariants.{Text}
 use Rattle.ledger.specs.Answers.{Answer, TotalAnswer}
@@ -61,5 +60,5 @@ unfoldable pub entry_line : List ℕ → (from : ℕ) → (result : List ℕ) �
 entry_line text from result = line_text text from ++ (32 ∷ result ++ (10 ∷ []))
 
 -- "A line that is no call ends the run: `line=N refused=NUMBER`"
-unfoldable pub stop_line : TextRefusal → List ℕ
-stop_line r = bytes "line=" ++ (digits r.line ++ (bytes " refused=" ++ (digits (text_number r) ++ (10 ∷ []))))
+unfoldable pub stop_line : (line refusal : ℕ) → List ℕ
+stop_line line refusal = bytes "line=" ++ (digits line ++ (bytes " refused=" ++ (digits refusal ++ (10 ∷ []))))

@@ -116,15 +116,15 @@ pub fn put_entry<T: Accepted>(
     out.put_byte(b'\n');
 }
 
-// The line of the text that is no call, with its number and why.
+// The line of the text that is no call, with its number and the refusal's: whatever the two numbers are.
 #[tactic(auto, using(decimal::proofs::Laws::written_append), unfolding(crate::specs::Entries::stop_line))]
-pub fn put_stop(out: &mut Writer, refusal: TextRefusal)
-    ensures { Wrote out.old out.new (stop_line refusal) }
+pub fn put_stop(out: &mut Writer, line: u64, refusal: u64)
+    ensures { Wrote out.old out.new (stop_line line refusal) }
 {
     out.put_bytes(b"line=");
-    out.put_number(refusal.line);
+    out.put_number(line);
     out.put_bytes(b" refused=");
-    out.put_number(refusal.number());
+    out.put_number(refusal);
     out.put_byte(b'\n');
 }
 
