@@ -36,9 +36,9 @@ fn store_all<T: Copy, const N: usize>(out: &mut [T], from: usize, list: &[T; N])
 fn put_held(out: &mut [u64], book: &Book)
     ensures { out.new ≡ held_numbers book.now out.old }
 {
-    store_all(out, 0, &book.commitment.map(|c| c.0));
+    store_all(out, 0, &state::kwh_of(&book.commitment));
     store_all(out, 192, &book.mark);
-    store_all(out, 216, &book.energy.map(|e| e.0));
+    store_all(out, 216, &state::grains_of(&book.energy));
 }
 
 // The 960 amounts, five to an hour and unit, as C gets them.

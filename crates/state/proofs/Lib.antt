@@ -5,3 +5,6 @@ pub mod Writing
 pub mod InRange
 pub mod Kept
 pub mod Typed
+pub mod Commitments
+pub mod Listed
+pub mod Packed

@@ -1,3 +1,4 @@
 pub mod Sizes
 pub mod Book
 pub mod Ranges
+pub mod Numbers

@@ -1,10 +1,12 @@
-// The book: how it is read and written, and what refusal 12 asks of it. Hours and places are counted from 0 here.
+// The book: how it is read and written, what refusal 12 asks of it, and the book as four lists of numbers, taken apart
+// into them and put together again. Hours and places are counted from 0 here.
 #![tactic(auto)]
 
-ghost use Rattle.std.specs.Prelude.{◌≡◌, ◌<◌, cond, eqb};
-ghost use Rattle.state.specs.Sizes.{hours, places};
+ghost use Rattle.std.specs.Prelude.{◌≡◌, ◌*◌, ◌<◌, length, cond, eqb};
+ghost use Rattle.state.specs.Sizes.{hours, places, items, entries};
 ghost use Rattle.state.specs.Book.{Sized, mark_at, hour_commitments, open_mark, settled_mark, stored, with_hour, empty_book, no_result};
 ghost use Rattle.state.specs.Ranges.{within as is_within, limit_of, place_holds, commitments_hold, marks_hold, energies_hold, items_hold, amounts_hold, book_holds};
+ghost use Rattle.state.specs.Numbers.{commitments_of, energies_of, amounts_at, amounts_of, book_of, kwh_of, grains_of, amount_numbers};
 
 use energy::{HubGrains, HubKwh};
 use offer::Offer;
@@ -16,6 +18,9 @@ use std::array;
 const MOST_ENERGY: HubGrains = HubGrains(80000000000);
 
 const MOST_AMOUNT: u64 = 100000000000;
+
+// The amounts of a book, five for each hour and place.
+pub const AMOUNTS: usize = 960;
 
 // Hour h and place k, which is that of unit k + 1, stand at 8 * h + k. Marks: 0 open, 1 settled; a mark stays a number, since refusal 12
 // tests the marks of any book, and C gets them as numbers. Four lists stand beside one another, since 12 tests each and C is given each.
@@ -177,4 +182,72 @@ pub fn book_holds(sheet: &Sheet, book: &Book) -> bool
         && marks_hold(&book.mark)
         && energies_hold(&book.energy)
         && amounts_hold(&book.amounts)
+}
+
+// The commitments of a book as numbers: C and other programs have plain numbers. No `From` here and below, since none
+// can be written for an array.
+pub fn kwh_of(commitment: &[HubKwh; 192]) -> [u64; 192]
+    ensures { result ≡ kwh_of commitment.now }
+{
+    commitment.map(|c| c.0)
+}
+
+// The energies of a book as numbers.
+pub fn grains_of(energy: &[HubGrains; 192]) -> [u64; 192]
+    ensures { result ≡ grains_of energy.now }
+{
+    energy.map(|e| e.0)
+}
+
+// The amounts of a book as numbers, five to an hour and place.
+pub fn amount_numbers(amounts: &[Amounts; 192]) -> [i64; AMOUNTS]
+    ensures { result ≡ amount_numbers amounts.now }
+{
+    array::from_fn(|n| amounts[n / 5].item[n % 5])
+}
+
+// The lists of a book, of their numbers. A list of numbers is a slice, so that a part of a longer one can be lent, and
+// each function asks for its length: a type that says it would ask for a copy.
+pub fn commitments_of(commitment: &[u64]) -> [HubKwh; 192]
+    requires { length commitment.now ≡ entries }
+    ensures { result ≡ commitments_of commitment.now }
+{
+    array::from_fn(|j| HubKwh(commitment[j]))
+}
+
+pub fn energies_of(energy: &[u64]) -> [HubGrains; 192]
+    requires { length energy.now ≡ entries }
+    ensures { result ≡ energies_of energy.now }
+{
+    array::from_fn(|j| HubGrains(energy[j]))
+}
+
+// The amounts of an hour and place, whose entry is j: only `amounts_of` goes through the entries.
+fn amounts_at(amounts: &[i64], j: usize) -> Amounts
+    requires { (j < entries) × (length amounts.now ≡ items * entries) }
+    ensures { result ≡ amounts_at amounts.now j }
+{
+    Amounts {
+        item: array::from_fn(|i| amounts[5 * j + i]),
+    }
+}
+
+pub fn amounts_of(amounts: &[i64]) -> [Amounts; 192]
+    requires { length amounts.now ≡ items * entries }
+    ensures { result ≡ amounts_of amounts.now }
+{
+    array::from_fn(|j| amounts_at(amounts, j))
+}
+
+// The book of its numbers. That of a book's own numbers is the book itself (`book_same` in proofs/Packed).
+pub fn book_by(commitment: &[u64], mark: &[u64; 24], energy: &[u64], amounts: &[i64]) -> Book
+    requires { (length commitment.now ≡ entries) × (length energy.now ≡ entries) × (length amounts.now ≡ items * entries) }
+    ensures { result ≡ book_of commitment.now mark.now energy.now amounts.now }
+{
+    Book {
+        commitment: commitments_of(commitment),
+        mark: *mark,
+        energy: energies_of(energy),
+        amounts: amounts_of(amounts),
+    }
 }
