@@ -17,6 +17,7 @@ use Rattle.settlement.specs.Ranges.{hour_by, proportions_by}
 use Rattle.settlement.proofs.Taken.{hour_by_lem, proportions_by_lem}
 use Rattle.state.specs.declared.Book.{Book}
 use Rattle.state.specs.Book.{mark_at, hour_commitments, settled_mark}
+use Rattle.ledger.specs.declared.Refusal.{Refusal}
 use Rattle.ledger.specs.Answers.{Verdict}
 use Rattle.ledger.specs.Ledger.{given, void}
 use Rattle.ledger.specs.Calls.{Row, verdict, bad_hour, is_settled, text_rows, record_tests, record_rows, void_rows, request_rows, place_after, by_verdict, refused_with, posted_with, recorded_at, voided_at, accepted_in, request_of, request_decided, Decision}
@@ -28,6 +29,9 @@ use Rattle.decisions.proofs.Changes.{in_hour}
 use Rattle.engine.specs.Carried.{accepted_on, decision_of, recorded}
 
 module _ (s : Sheet) (b : Book) (count room : ℕ) where
+  refused_on_lem : (start : ℕ) (r : Refusal) → decision_of s.units b count start (Err r) ≡ refused_with b count start r
+  refused_on_lem start r = refl
+
   by_on : (v : Verdict) (start : ℕ) (d : HourChange) (x : Decision) → accepted_on s.units b count d ≡ x
       → decision_of s.units b count start (change_by v d) ≡ by_verdict v x (refused_with b count start)
   by_on (Ok tt) start d x e = e

@@ -21,4 +21,5 @@ pub mod Coded
 pub mod Fitting
 pub mod Exactly
 pub mod Passed
+pub mod Lines
 pub mod Keeps

@@ -11,6 +11,7 @@ use borrow.Author.Tests.{ltb-false, not-false}
 use lib.Count.{ones-le}
 use lib.Dec.{eqb}
 use lib.ListN.{length}
+use Rattle.finite.proofs.Tests.{and_left, and_right}
 use Rattle.units.specs.Units.{unit_count}
 use Rattle.sheet.specs.declared.Sheet.{Sheet}
 use Rattle.sheet.specs.Ranges.{sheet_holds}
@@ -49,6 +50,14 @@ fits_by s b count places x y h = ap (λ (t : Bool). book_holds s b && t) (by (co
     by : (t : Bool) → count_holds count places ≡ t → (count_holds count places && x) ≡ (count_holds count places && y)
     by true e = ap (λ (z : Bool). count_holds count places && z) (h e)
     by false e = rw e
+
+-- 12 in its parts
+module _ (s : Sheet) (b : Book) (count places : ℕ) (posted : Bool) (u : book_fits s b count places posted ≡ true) where
+  pub book_holds_lem : book_holds s b ≡ true
+  book_holds_lem = and_left (book_holds s b) (count_holds count places && posted) u
+
+  pub count_holds_lem : count_holds count places ≡ true
+  count_holds_lem = and_left (count_holds count places) posted (and_right (book_holds s b) (count_holds count places && posted) u)
 
 module _ (s : Sheet) (b : Book) (q : Request) (count places : ℕ) where
   posted_fits : sheet_holds s ≡ true → short_of s.units count places ≡ false → (hour : ℕ) (old new : List Amounts)

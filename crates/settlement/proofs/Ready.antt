@@ -14,7 +14,7 @@ use Rattle.energy.specs.declared.HubGrains.{HubGrains}
 use Rattle.units.specs.Units.{member_at}
 use Rattle.units.proofs.Laws.{place_lt}
 use Rattle.offer.specs.declared.Offer.{Offer}
-use Rattle.offer.specs.Offer.{offer_holds}
+use Rattle.offer.specs.Offer.{past_offer, offer_holds}
 use Rattle.sheet.specs.declared.Sheet.{Sheet}
 use Rattle.sheet.specs.Ranges.{unit_at as sheet_unit, offer_at}
 use Rattle.sheet.proofs.InRange.{UnitInRange as SheetUnitInRange, InRange as SheetInRange, in_range_lem}
@@ -41,6 +41,12 @@ abbrev pub taken : Sheet → Record → HourSheet
 taken sheet r = hour_sheet_with sheet r.hour (units_terms sheet (r.hour - 1))
 
 module _ (sheet : Sheet) (r : Record) where
+  pub own_at_lem : (k : ℕ) → k < 8 → get_or (tabulate 8 (own_at sheet)) k 0 ≡ own_at sheet k
+  own_at_lem k l = get_d_tabulate 8 (own_at sheet) k 0 l
+
+  pub offer_at_lem : (k : ℕ) → k < 8 → get_or (tabulate 8 (hour_offer sheet r)) k past_offer ≡ hour_offer sheet r k
+  offer_at_lem k l = get_d_tabulate 8 (hour_offer sheet r) k past_offer l
+
   pub terms_at_lem : (k : ℕ) → k < 8 → terms_at (taken sheet r) k ≡ unit_terms (sheet_unit sheet.unit k) (r.hour - 1)
   terms_at_lem k l = get_d_tabulate 8 (λ k. unit_terms (sheet_unit sheet.unit k) (r.hour - 1)) k past_terms l
 

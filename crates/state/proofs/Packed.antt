@@ -1,23 +1,27 @@
 -- The book of four lists of numbers: a book is that of its own numbers, and each of its entries is the number at its
 -- place. Both are made by index, so it is enough to see it at each index: the five items of entry j stand from 5 j on.
 -- Assumes nothing.
-use mathlib.Core.Path.{◌≡◌, refl, sym, ◌∙◌, ap}
+use mathlib.Core.Path.{◌≡◌, refl, sym, ◌∙◌, ap, subst}
+use mathlib.Core.Bool.{true}
 use mathlib.Core.List.{List}
-use Prim.Native.Nat.{ℕ, ◌+◌, ◌*◌, ◌/◌, ◌%◌, ◌<◌}
+use Prim.Native.Nat.{ℕ, ◌+◌, ◌*◌, ◌/◌, ◌%◌, ◌<◌, ◌≤◌}
 use native.Mathlib.Omega.{arith}
-use lib.IntN.{ℤ, pos}
+use lib.IntN.{ℤ, pos, nat_abs}
 use lib.ListN.{length, get_or}
 use lib.Seq.{ext_get_or}
 use Rattle.finite.proofs.Tables.{length_tabulate, get_d_tabulate, tabulate_same}
 use Rattle.energy.specs.declared.HubKwh.{HubKwh}
 use Rattle.energy.specs.declared.HubGrains.{HubGrains}
+use Rattle.sheet.specs.declared.Sheet.{Sheet}
 use Rattle.settlement.specs.declared.Amounts.{Amounts}
 use Rattle.state.specs.declared.Book.{Book}
 use Rattle.state.specs.Sizes.{hours, places, items, entries, entry_of}
 use Rattle.state.specs.Book.{no_kwh, no_grains, past_amounts, item_of, commitment_at, mark_at, energy_at, amount_at, Sized}
 use Rattle.state.specs.Book as S
 use Rattle.state.specs.Numbers.{commitments_of, energies_of, amounts_at, amounts_of, book_of, kwh_of, grains_of, amount_numbers}
+use Rattle.state.specs.Ranges.{most_amount, book_holds}
 use Rattle.state.proofs.Entries.{entry_lt, entry_back}
+use Rattle.state.proofs.InRange.{book_in_range}
 use Rattle.state.proofs.Listed.{own_entries, own_numbers}
 
 -- the entries of the three lists that are made of numbers
@@ -62,6 +66,9 @@ module _ (c m e : List ℕ) (a : List ℤ) (h : ℕ) where
   module _ (k : ℕ) (day : h < hours) (l : k < places) where
     pub commitment_in : commitment_at (book_of c m e a) h k ≡ record { 0 = get_or c (entry_of h k) 0 }
     commitment_in = commitments_at c (entry_of h k) (entry_lt h k day l)
+
+    pub kwh_in_lem : (commitment_at (book_of c m e a) h k).0 ≡ get_or c (entry_of h k) 0
+    kwh_in_lem = ap (λ (x : HubKwh). x.0) commitment_in
 
     pub energy_in : energy_at (book_of c m e a) h k ≡ record { 0 = get_or e (entry_of h k) 0 }
     energy_in = energies_at e (entry_of h k) (entry_lt h k day l)
@@ -119,3 +126,13 @@ book_same b s =
       energy = grains_same b.energy s.energy i;
       amounts = numbers_same b.amounts s.amounts five i;
     }
+
+-- where 12 does not hold of the book, each amount of the list keeps its bound
+module _ (s : Sheet) (c m e : List ℕ) (a : List ℤ) (fits : book_holds s (book_of c m e a) ≡ true) where
+  abbrev Within : ℕ → Type 0
+  Within n = nat_abs (get_or a n (pos 0)) ≤ most_amount
+
+  pub amount_at_lem : (h k i : ℕ) → h < hours → k < places → i < items → Within (items * entry_of h k + i)
+  amount_at_lem h k i day l j =
+      subst (λ (x : ℤ). nat_abs x ≤ most_amount) (amount_in_lem c m e a h k day l i j)
+      ((book_in_range s (book_of c m e a) fits).amount h k i day l j)
