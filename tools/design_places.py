@@ -194,8 +194,8 @@ def marks(item, outcomes, lists):
 
 
 def is_chain(item):
-    """Whether a function is one chain of std's, which is the generic function at its type."""
-    return item.form == 'fn' and split(item.body, ';')[1:] == [] and re.search(r'\.(all|map|sum|count)\(|from_fn\(', item.body)
+    """Whether a function is one chain of std's, or one call of `energy::total`, which is the generic function at its type."""
+    return item.form == 'fn' and split(item.body, ';')[1:] == [] and re.search(r'\.(all|map|sum|count)\(|from_fn\(|^\W*energy::total\(', item.body)
 
 
 def twins(everything, lists):

@@ -4,7 +4,7 @@
 ghost use Rattle.std.specs.Prelude.{◌≡◌, ◌≤◌, ◌<◌, ◌^◌, ℕ};
 ghost use Rattle.finite.specs.Finite.{tabulate};
 ghost use Rattle.formulas.specs.Items.{kinds};
-ghost use Rattle.charge.specs.Test.{counted_of, in_q, in_w, q_part, w_part, counted_deviation, is_charged, weighted as the_weighted, base_charge, growth as the_growth, hours_counted, charge_of, NearExact};
+ghost use Rattle.charge.specs.Test.{counted_of, kind_weight, in_q, in_w, q_part, w_part, counted_deviation, is_charged, weighted as the_weighted, base_charge, growth as the_growth, hours_counted, charge_of, NearExact};
 
 use energy::{Energy, HubGrains, NetKwh};
 use formulas::{AvailabilityRate, Deviations, KINDS};
@@ -71,7 +71,7 @@ impl KindWeight {
     // What q takes of it: nothing of a kind without a weight.
     #[tactic(auto, using(std::proofs::lemmas::Bool::Decides::nat_tests))]
     fn in_q(self, deviation: NetKwh, repaired: bool) -> NetKwh
-        ensures { result.0 ≡ in_q self deviation repaired }
+        ensures { result ≡ record { 0 = in_q self deviation repaired } }
     {
         if self.tenths == 0 {
             return NetKwh(0);
@@ -88,12 +88,20 @@ impl KindWeight {
     }
 }
 
-// What q takes of each kind.
+// The row of the kind at index j.
 #[tactic(auto, unfolding(crate::specs::Test::kind_weights, crate::specs::Test::kind_weight))]
+fn kind_weight(j: usize) -> KindWeight
+    requires { j < kinds }
+    ensures { result ≡ kind_weight j }
+{
+    KIND_WEIGHTS[j]
+}
+
+// What q takes of each kind.
 fn counted_parts(d: Deviations, repaired: bool) -> [NetKwh; KINDS]
     ensures { result ≡ tabulate kinds (λ (j : ℕ). record { 0 = q_part d repaired j }) }
 {
-    array::from_fn(|j| KIND_WEIGHTS[j].in_q(d.kwh[j], repaired))
+    array::from_fn(|j| kind_weight(j).in_q(d.kwh[j], repaired))
 }
 
 // The counted deviation q. `repair` is the record's number, here and of W: a record may hold any.
@@ -121,12 +129,11 @@ pub fn is_charged(q: NetKwh, reading: Option<NetKwh>, energy: HubGrains, loss: u
 }
 
 // What W takes of each kind.
-#[tactic(auto, unfolding(crate::specs::Test::kind_weights, crate::specs::Test::kind_weight))]
 fn weighted_parts(d: Deviations, repaired: bool) -> [u64; KINDS]
     requires { (j : ℕ) → j < kinds → w_part d repaired j < 2 ^ 64 }
     ensures { result ≡ tabulate kinds (w_part d repaired) }
 {
-    array::from_fn(|j| KIND_WEIGHTS[j].in_w(d.kwh[j], repaired))
+    array::from_fn(|j| kind_weight(j).in_w(d.kwh[j], repaired))
 }
 
 // The weighted deviation W, in tenths of a kWh.
