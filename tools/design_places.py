@@ -77,7 +77,7 @@ exports::{put_commitments,put_marks,put_energies,put_items,put_amounts}
 settlement::UnitHour.availability
 4 a machine number to another: text::wide exports::signed decimal::{size,digit}
 gone 4 the library's `try_from`: exports::signed
-new 4 book or offers to or from numbers: exports::put_held
+new 4 book or offers to or from numbers: exports::put_held state::{grains_of,amount_numbers,commitments_of,energies_of,amounts_by,amounts_of,book_by}
 4 copied or filled one by one: journal::append apportion::zeros exports::listed
 6 a length beside: ledger::Decision text::Head batch::Batch daybook::Stand own_journal::Carried day_calls::Listed lines::Cursor values::{numbers,value_into} \
 decimal::Writer daybook::Replay

@@ -2,17 +2,19 @@
 // by what the sheet and the book have of it, and the numbers of answers. The crate `ledger` says what is right.
 #![tactic(auto)]
 
-ghost use Rattle.std.specs.Prelude.{◌≡◌, true, ◌&&◌, ◌||◌, [], ◌∷◌, ltb, eqb, ◌+◌, ◌<◌, Ok};
+ghost use Rattle.std.specs.Prelude.{◌≡◌, true, ◌&&◌, ◌||◌, [], ◌∷◌, ltb, eqb, ◌+◌, ◌<◌};
+ghost use Rattle.std.specs.Result.{ForOk};
 ghost use Rattle.settlement.specs.Ranges.{HourDue};
 ghost use Rattle.ledger.specs.Calls.{verdict, bad_hour, unknown_units, short_of};
 ghost use Rattle.ledger.specs.Numbers.{number_of, line_of, posted_of};
 ghost use Rattle.ledger.specs.Requests.{part_of, asked_at};
 ghost use Rattle.decisions.specs.Calls.{commitment_call, record_call, decoded, call_start};
 ghost use Rattle.decisions.specs.Changes.{hour_index, entry_index, change_of, change_tests};
-ghost use Rattle.decisions.specs.Hours.{void_decided, standing_row, record_decided};
+ghost use Rattle.decisions.specs.Hours.{void_decided, standing_row, told_of, record_decided};
 
 use energy::{Energy, HubKwh};
 use ledger::{Asked, Effect, Refusal};
+use lines::TextRefusal;
 use record_text::RecordRead;
 use settlement::{DueHour, HourResult};
 use terms::HourSheet;
@@ -65,12 +67,14 @@ pub struct CommitmentChange {
     pub moves: bool,
 }
 
-// What an accepted settle, restate or void comes to: its hour and the text place, and whether the hour is settled, its energies and amounts after it.
-// A void has them too, all 0: the three calls are stored and posted in one way.
+// What an accepted settle, restate or void comes to: its hour and the text place, how many postings it appends, and
+// whether the hour is settled, its energies and amounts after it. A void has these too, all 0: the three calls are
+// stored and posted in one way.
 #[derive(Clone, Copy)]
 pub struct HourChange {
     pub hour: u64,
     pub place: u64,
+    pub posted: u64,
     pub settled: bool,
     pub result: HourResult,
 }
@@ -301,6 +305,7 @@ pub fn decide_void(
     Ok(HourChange {
         hour,
         place: 0,
+        posted: 5 * units::unit_count(units),
         settled: false,
         result: state::no_result(),
     })
@@ -324,35 +329,36 @@ fn stands_otherwise(again: bool, settled: bool) -> bool
     again != settled
 }
 
-// A settle or a restate (`again`) of a record that was read: 31, 40 or 41, 32 33 42.
+// A settle or a restate (`again`) by what was read of its text: text, 31, 40 or 41, 32 33 42. The record is lent, since
+// it is large; where the text is refused there is none, and the rest is not looked at.
 #[tactic(auto, unfolding(crate::specs::Hours::record_decided, ledger::specs::Calls::verdict))]
 pub fn decide_record(
     day: &HourSheet,
     held: &[HubKwh; 8],
     again: bool,
     settled: bool,
-    r: &RecordRead,
+    reading: Result<&RecordRead, TextRefusal>,
     count: u64,
     places: usize,
 ) -> Result<HourChange, Refusal>
-    requires { HourDue day.now r.now.read held.now }
-    ensures { result ≡ record_decided day.now held.now again settled (record { answer = Ok r.now.place; read = r.now.read }) count places }
+    requires { ForOk reading (λ r. HourDue day.now r.now.read held.now) }
+    ensures { result ≡ record_decided day.now held.now again settled (told_of reading.entry) count places }
 {
-    let units = day.units;
+    let r = reading?;
     let read = &r.read;
-    if !record::minutes_hold(read, units) {
+    if !record::minutes_hold(read, day.units) {
         return Err(Refusal::Minutes);
     }
     if stands_otherwise(again, settled) {
         return Err(standing(again));
     }
-    if !readings::readings_hold(read, units) {
+    if !readings::readings_hold(read, day.units) {
         return Err(Refusal::Readings);
     }
     if !settlement::proportions_hold(day, read) {
         return Err(Refusal::Proportions);
     }
-    if short_of(units, count, places) {
+    if short_of(day.units, count, places) {
         return Err(Refusal::NoPlaces);
     }
     let due = DueHour {
@@ -363,6 +369,7 @@ pub fn decide_record(
     Ok(HourChange {
         hour: read.hour,
         place: r.place,
+        posted: 5 * units::unit_count(day.units),
         settled: true,
         result: due.settle_hour(),
     })

@@ -42,13 +42,13 @@ module _ (s : Sheet) (b : Book) (count room : ℕ) where
       → let day = hour_sheet s r.hour in
       decision_of s.units b count start
       (change_by (verdict (record_tests day.units (proportions_by day r) r standing count room))
-      (hour_changed r.hour true (hour_by day r (hour_commitments b (r.hour - 1))) place))
+      (hour_changed day.units r.hour true (hour_by day r (hour_commitments b (r.hour - 1))) place))
       ≡ by_verdict (verdict (record_rows s r standing count room)) (recorded_at s b r place count) (refused_with b count start)
   read_on r start place standing =
       let day = hour_sheet s r.hour in
       let held = hour_commitments b (r.hour - 1) in
       ap₂ (λ (units : ℕ) (t : Bool). decision_of s.units b count start
-      (change_by (verdict (record_tests units t r standing count room)) (hour_changed r.hour true (hour_by day r held) place)))
+      (change_by (verdict (record_tests units t r standing count room)) (hour_changed units r.hour true (hour_by day r held) place)))
       (hour_units s r.hour) (proportions_by_lem s r)
       ∙ by_on (verdict (record_rows s r standing count room)) start _ _
       (ap (λ (x : HourResult). posted_with s b r.hour settled_mark x place count) (hour_by_lem s r held))

@@ -75,12 +75,12 @@ module _ (s : Sheet) (b : Book) (count room : ℕ) (r : Ready s b count room) wh
   unfolding void_decided
   void_ready hour settled decided e =
       change_ready decided (λ d is.
-      let made = change_made (verdict (void_tests s.units hour settled count room)) (hour_changed hour false no_result 0) d (sym e ∙ is) in
+      let made = change_made (verdict (void_tests s.units hour settled count room)) (hour_changed s.units hour false no_result 0) d (sym e ∙ is) in
       let p10 = passed _ _ made.0 in
       let p41 = passed _ _ p10.1 in
       let day = hour_in hour p10.0 in
       subst (ChangeReady s.units count room) made.1
-      (record { hour_least = day.0; hour_most = day.1; within = none_within s.units; free = free_by (passed _ _ p41.1).0 }))
+      (record { hour_least = day.0; hour_most = day.1; within = none_within s.units; posted = refl; free = free_by (passed _ _ p41.1).0 }))
 
   -- of a record that was read, in its ranges
   module _ (read : Record) (i : InRange s.units read) where
@@ -107,7 +107,7 @@ module _ (s : Sheet) (b : Book) (count room : ℕ) (r : Ready s b count room) wh
     accepted_ready : (again settled : Bool) (place : ℕ) (d : HourChange)
         → let day = hour_sheet s read.hour in
         change_by (verdict (record_tests day.units (proportions_by day read) read (standing_row again settled) count room))
-        (hour_changed read.hour true (hour_by day read held) place) ≡ Ok d
+        (hour_changed day.units read.hour true (hour_by day read held) place) ≡ Ok d
         → ChangeReady s.units count room d
     accepted_ready again settled place d e =
         let made = change_made _ _ d e in
@@ -117,7 +117,7 @@ module _ (s : Sheet) (b : Book) (count room : ℕ) (r : Ready s b count room) wh
         let p33 = passed _ _ p32.1 in
         let free : short_of s.units count room ≡ false = rw (hour_units s read.hour) at (passed _ _ p33.1).0 in
         subst (ChangeReady s.units count room) made.1
-        (record { hour_least = i.hour_least; hour_most = i.hour_most; within = amounts_within; free = free_by free })
+        (record { hour_least = i.hour_least; hour_most = i.hour_most; within = amounts_within; posted = ap entry_size (hour_units s read.hour); free = free_by free })
 
   module _ (text : List ℕ) (start : ℕ) where
     -- by what was read

@@ -53,11 +53,13 @@ abbrev pub decision_of : (units : ℕ) → Book → (count start : ℕ) → Resu
 decision_of units b count start (Ok d) = accepted_on units b count d
 decision_of units b count start (Err r) = refused_with b count start r
 
--- what storing an hour rests on: an hour of the day, amounts whose differences can be posted, and free places for them
+-- what storing an hour rests on: an hour of the day, amounts whose differences can be posted, as many as are counted,
+-- and free places for them
 pub record ChangeReady (units count places : ℕ) (d : HourChange) : Type 0 where
   pub hour_least : 1 ≤ d.hour
   pub hour_most : d.hour ≤ hours
   pub within : AmountsWithin units d.result.amounts
+  pub posted : d.posted ≡ entry_size units
   pub free : count + entry_size units ≤ places
 
 pub record StoreReady (units : ℕ) (b : Book) (count places : ℕ) (decided : Result HourChange Refusal) : Type 0 where

@@ -49,13 +49,12 @@ fn store_hour(
             };
         }
     };
-    let posted = 5 * units::unit_count(units);
     postings::post_hour(list, count as usize, d.hour, units, book, &d.result.amounts);
     book.store_hour((d.hour - 1) as usize, d.settled, units, &d.result);
     Done {
-        answer: Ok(Effect::Posted(posted)),
+        answer: Ok(Effect::Posted(d.posted)),
         place: d.place,
-        count: count + posted,
+        count: count + d.posted,
     }
 }
 
@@ -80,7 +79,7 @@ fn record_change(
     let held = book.commitments(h);
     let settled = book.is_settled(h);
     let day = terms::hour_sheet(sheet, hour);
-    decisions::decide_record(&day, &held, again, settled, &r, count, places)
+    decisions::decide_record(&day, &held, again, settled, Ok(&r), count, places)
 }
 
 // A settle or a restate. It stands apart from `carry_out`, and so does a void: what they need of the stack would be made ready for each take.

@@ -223,7 +223,7 @@ pub fn energies_of(energy: &[u64]) -> [HubGrains; 192]
 }
 
 // The amounts of an hour and place, whose entry is j: only `amounts_of` goes through the entries.
-fn amounts_at(amounts: &[i64], j: usize) -> Amounts
+fn amounts_by(amounts: &[i64], j: usize) -> Amounts
     requires { (j < entries) × (length amounts.now ≡ items * entries) }
     ensures { result ≡ amounts_at amounts.now j }
 {
@@ -236,7 +236,7 @@ pub fn amounts_of(amounts: &[i64]) -> [Amounts; 192]
     requires { length amounts.now ≡ items * entries }
     ensures { result ≡ amounts_of amounts.now }
 {
-    array::from_fn(|j| amounts_at(amounts, j))
+    array::from_fn(|j| amounts_by(amounts, j))
 }
 
 // The book of its numbers. That of a book's own numbers is the book itself (`book_same` in proofs/Packed).

@@ -4,7 +4,7 @@ use Rattle.std.proofs.Common.{rules, ◌+◌, ◌*◌, get_or}
 use lib.IntN.{pos}
 use Rattle.finite.proofs.Chains.{tabulate_from_fn}
 use Rattle.state.specs.Sizes.{items}
-use Rattle.state.proofs.amounts_at.Goals as goal
+use Rattle.state.proofs.amounts_by.Goals as goal
 
 pub returns : goal.returns
 returns c =
