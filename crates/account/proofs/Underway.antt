@@ -1,7 +1,7 @@
 -- A day on the way to its end: the calls that are left lead from the accounts to the end of the day, and neither 9 nor 12 refuses the next one, since the sheet
 -- passes 9 and from the empty book on 12 never comes up.
 -- Assumes nothing.
-use mathlib.Core.Path.{◌≡◌, sym, ap, ◌∙◌}
+use mathlib.Core.Path.{◌≡◌, sym, ap, ◌∙◌, subst}
 use mathlib.Core.Bool.{true}
 use mathlib.Core.List.{List, []}
 use Prim.Native.Nat.{ℕ, suc}
@@ -10,6 +10,7 @@ use Rattle.std.specs.Prelude.{Ok, Some}
 use Rattle.sheet.specs.declared.Sheet.{Sheet}
 use Rattle.sheet.specs.Ranges.{sheet_holds}
 use Rattle.state.specs.Book.{empty_book}
+use Rattle.state.specs.Ranges.{book_holds}
 use Rattle.state.proofs.Empty.{empty_sized}
 use Rattle.postings.specs.Journal.{no_posting}
 use Rattle.ledger.specs.Calls.{ran_from}
@@ -19,6 +20,7 @@ use Rattle.engine.specs.declared.Done.{Done}
 use Rattle.engine.specs.Journal.{Performed, performed}
 use Rattle.journal.specs.declared.Accounts.{Accounts}
 use Rattle.journal.specs.Accounts.{passes, Known, Performs}
+use Rattle.journal.proofs.Passing.{ready}
 use Rattle.journal.proofs.Turning.{known_next}
 use Rattle.day_calls.specs.declared.Step.{Step}
 use Rattle.account.specs.Day.{Pending, due_at, day_with, answered_by, day_after, Running, turned, ran_to, most_calls, begun, day_from}
@@ -51,6 +53,10 @@ module _ (sheet : Sheet) (text : List ℕ) (at : ℕ) where
       }
 
   module _ (left : ℕ) (a : Accounts) (due : Pending) (u : Underway left a due) where
+    book_fits_lem : book_holds sheet a.book ≡ true
+    book_fits_lem =
+        subst (λ (s : Sheet). book_holds s a.book ≡ true) u.sheet_is (ready a.sheet.now a.book a.count a.list.now u.known.known u.known.sized).fits
+
     pub under_end : NoneDue due → day_with a.count a.book due ≡ day_from sheet text at
     under_end none = sym (ap (λ (r : Running). r.day) (ran_end sheet text left (run_of a due) none)) ∙ u.ahead
 

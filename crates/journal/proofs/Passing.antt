@@ -9,22 +9,20 @@ use Prim.Native.Nat.{ℕ}
 use native.Mathlib.Omega.{arith}
 use lib.ListN.{length, take as first_of}
 use lib.Seq.{paste-zero}
-use Rattle.finite.proofs.Tests.{and_left, and_right}
 use Rattle.sheet.specs.declared.Sheet.{Sheet}
 use Rattle.sheet.specs.Ranges.{sheet_holds}
 use Rattle.state.specs.declared.Book.{Book}
 use Rattle.state.specs.Book.{Sized}
-use Rattle.state.specs.Ranges.{book_holds}
 use Rattle.postings.specs.declared.Posting.{Posting}
 use Rattle.postings.specs.Journal.{count_holds, posted_hold}
 use Rattle.ledger.specs.declared.Refusal.{Refusal}
 use Rattle.ledger.specs.declared.Refusal.TheVariants.{SheetRange, BookRange}
 use Rattle.ledger.specs.Answers.{Verdict}
 use Rattle.ledger.specs.Ledger.{Call}
-use Rattle.ledger.specs.Calls.{State, fits_in, no_plan, refused_with, request_of, decided_on, carried_out}
+use Rattle.ledger.specs.Calls.{State, Decision, fits_in, no_plan, refused_with, request_of, decided, decided_on, carried_out, outcome_of, journal_after}
 use Rattle.ledger.proofs.Keeps.{carried_keeps}
 use Rattle.ledger.proofs.Parts.{start_same, refused_9, refused_12}
-use Rattle.ledger.proofs.Places.{decided_9, decided_12, decided_on_lem}
+use Rattle.ledger.proofs.Places.{book_holds_lem, count_holds_lem, decided_same, decided_9, decided_12, decided_on_lem}
 use Rattle.decisions.specs.declared.Call.{Call as Decoded}
 use Rattle.decisions.specs.Calls.{call_of, call_start}
 use Rattle.decisions.proofs.Calls.{start_is}
@@ -52,8 +50,8 @@ module _ (s : Sheet) (b : Book) (count : ℕ) (l : List Posting) where
         record {
           sized = sized;
           holds = p.0;
-          fits = and_left (book_holds s b) _ p.1;
-          counted = and_left (count_holds count (length l)) _ (and_right (book_holds s b) _ p.1);
+          fits = book_holds_lem s b count (length l) _ p.1;
+          counted = count_holds_lem s b count (length l) _ p.1;
         }
 
     pub carried_performed : (c : Call) → carried s b count l c ≡ performed l count s b c
@@ -61,6 +59,18 @@ module _ (s : Sheet) (b : Book) (count : ℕ) (l : List Posting) where
     carried_performed c =
         let p = none_refuses s st e in
         ap (done_by l) (decided_on_lem s b (request_of s c) count (length l) (posted_hold (first_of count l)) p.0 p.1)
+
+  -- a call from its parts, by whatever tells whether the postings up to the count hold
+  module _ (c : Call) (good : Bool) where
+    abbrev d : Decision
+    d = decided s b (request_of s c) count (length l) good
+
+    pub performed_by_lem : (count_holds count (length l) ≡ true → good ≡ posted_hold (first_of count l)) → (zs : List Posting) → zs ≡ journal_after l d
+        → ◌≡◌ {A = Performed} (record { outcome = outcome_of d; list = zs }) (performed l count s b c)
+    unfolding performed
+    performed_by_lem tells zs e =
+        ap (λ (z : List Posting). record { outcome = outcome_of d; list = z }) e
+        ∙ ap (λ (x : Decision). record { outcome = outcome_of x; list = journal_after l x }) (decided_same s b (request_of s c) count (length l) good _ tells)
 
   -- which of 9 and 12 it is
   by_refusal : (r : Refusal) (c : Call) → passes s st ≡ Err r → refused_with b count (request_of s c).start r ≡ decided_on s st (request_of s c)
