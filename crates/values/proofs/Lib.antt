@@ -3,3 +3,4 @@ pub mod Fits
 pub mod Codes
 pub mod Parts
 pub mod Pairs
+pub mod Behind
