@@ -6,13 +6,12 @@ use std::rt::Files;
 use std::{env, io};
 
 fn file_of<R: Files + Eprint + Alloc, W: Write>(rt: &R, out: &mut W, name: &str) -> io::Result<()> {
-    let mut room = vec![in rt.alloc(); 0u8; 70000]?;
-    let Some(text) = file_bytes::read_or_tell(rt, name, &mut room)? else {
+    let Some(text) = file_bytes::read_or_tell(rt, name, 70000)? else {
         return Ok(());
     };
     writeln!(out, "{name}")?;
     let mut bytes = vec![in rt.alloc(); 0u8; 400000]?;
-    let n = daybook::replay_of(text, &mut bytes);
+    let n = daybook::replay_of(&text, &mut bytes);
     bytes.truncate(n);
     out.write_all(&bytes)
 }

@@ -73,17 +73,16 @@ fn put_statement<W: Write>(out: &mut W, day: Day) -> io::Result<()> {
 fn main(rt: HostRuntime) -> io::Result<()> {
     let names: Vec<String> = env::args(&rt)?.skip(1).collect(rt.alloc())?;
     let mut out = BufWriter::new(rt.alloc(), io::writer(&rt))?;
-    let mut room = vec![in rt.alloc(); 0u8; 65537]?;
     for name in &names {
         let name = name.as_str();
-        if let Some(text) = file_bytes::read_or_tell(&rt, name, &mut room)? {
-            put_readings(&mut out, Day { name, text })?;
+        if let Some(text) = file_bytes::read_or_tell(&rt, name, 65537)? {
+            put_readings(&mut out, Day { name, text: &text })?;
         }
     }
     for name in &names {
         let name = name.as_str();
-        if let Some(text) = file_bytes::read_or_tell(&rt, name, &mut room)? {
-            put_statement(&mut out, Day { name, text })?;
+        if let Some(text) = file_bytes::read_or_tell(&rt, name, 65537)? {
+            put_statement(&mut out, Day { name, text: &text })?;
         }
     }
     out.flush()

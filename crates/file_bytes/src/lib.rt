@@ -1,30 +1,31 @@
 // Files read into a lent buffer.
 #![tactic(auto)]
 
-ghost use Rattle.std.specs.Prelude.{◌≡◌, ◌<◌, ◌≤◌, length, None};
+ghost use Rattle.std.specs.Prelude.{◌≡◌, ℕ, ◌<◌, ◌≤◌, List, length, take, vec_len, None, IfSome, IfOk};
+ghost use Rattle.std.specs.Borrow.{Bor, MutBor};
 ghost use Rattle.std.specs.Io.KnownBytes.{Consumes, IsAtEnd};
 
 use std::io::{Read, Write};
 use std::rt::Files;
 use std::{fs, io};
 
-// Reads until the buffer is full, the input ends or a read fails. Gives the bytes that it read, at the buffer's start, and the error of the read
-// that failed.
-pub fn read_full<'b, R: Read>(from: &mut R, buffer: &'b mut [u8]) -> (&'b [u8], Option<io::Error>)
-    ensures within { length result.0.now ≤ length buffer.old }
-    ensures bytes { Consumes (R.remaining from.old) (R.remaining from.new) result.0.now }
-    ensures all { result.1 ≡ None → length result.0.now < length buffer.old → IsAtEnd (R.remaining from.new) }
+// Reads until the buffer is full, the input ends or a read fails. Gives how many bytes it put at the buffer's start, and the error of the
+// read that failed.
+pub fn read_full<R: Read>(from: &mut R, buffer: &mut [u8]) -> (usize, Option<io::Error>)
+    ensures within { result.0 ≤ length buffer.new }
+    ensures bytes { Consumes (R.remaining from.old) (R.remaining from.new) (take result.0 buffer.new) }
+    ensures all { result.1 ≡ None → result.0 < length buffer.new → IsAtEnd (R.remaining from.new) }
 {
     let mut done = 0;
     // a read puts as many bytes as it can, so that no `for` counts them
     while done < buffer.len() {
         match from.read(&mut buffer[done..]) {
-            Ok(0) => return (&buffer[..done], None),
+            Ok(0) => return (done, None),
             Ok(n) => done += n,
-            Err(error) => return (&buffer[..done], Some(error)),
+            Err(error) => return (done, Some(error)),
         }
     }
-    (buffer, None)
+    (done, None)
 }
 
 // The bytes of a file, as far as the buffer has room, or up to a read that fails. A file that is not there has none.
@@ -32,25 +33,35 @@ pub fn read_named<'b, R: Files>(rt: &R, name: &str, buffer: &'b mut [u8]) -> &'b
     ensures { length result.now ≤ length buffer.old }
 {
     match fs::open(rt, name) {
-        Ok(mut file) => read_full(&mut file, buffer).0,
+        Ok(mut file) => {
+            let (n, _error) = read_full(&mut file, buffer);
+            &buffer[..n]
+        }
         Err(_) => b"",
     }
 }
 
-// The bytes of a file, likewise; of one that cannot be opened none, and the error output says why. Apart from
-// `read_named`, which needs no error output: one function would give both the error, and each caller would match on it.
-pub fn read_or_tell<'b, R: Files + Eprint>(
+// The bytes of a file, at most so many, or up to a read that fails; of one that cannot be opened none, and the error output
+// says why. The room for them is made once the file is open. Apart from `read_named`, which needs no error output: one
+// function would give both the error, and each caller would match on it.
+pub fn read_or_tell<R: Files + Eprint + Alloc>(
     rt: &R,
     name: &str,
-    buffer: &'b mut [u8],
-) -> io::Result<Option<&'b [u8]>> {
-    match fs::open(rt, name) {
-        Ok(mut file) => Ok(Some(read_full(&mut file, buffer).0)),
+    most: usize,
+) -> io::Result<Option<Vec<u8, R::A>>>
+    ensures { IfOk result (λ read. IfSome read (λ text. vec_len text ≤ most)) }
+{
+    let mut file = match fs::open(rt, name) {
+        Ok(file) => file,
         Err(error) => {
             eprintln!(rt; "{name}: {error}")?;
-            Ok(None)
+            return Ok(None);
         }
-    }
+    };
+    let mut text = vec![in rt.alloc(); 0u8; most]?;
+    let (n, _error) = read_full(&mut file, &mut text);
+    text.truncate(n);
+    Ok(Some(text))
 }
 
 // Prints what a function writes into a lent buffer for the bytes of a file; it gives how many these are.
@@ -62,6 +73,8 @@ pub fn print_answer<R: Files + Print, F: FnOnce(&[u8], &mut [u8]) -> usize>(
     answer: F,
 ) -> io::Result<()>
     requires { F.IsAlwaysCallable answer }
+    ensures { (asked : Bor (List ℕ)) × (lent left : MutBor (List ℕ)) × (n : ℕ) × F.post answer asked lent n left
+        × (length asked.now ≤ length text.old) × (lent.now ≡ out.old) × (left.now ≡ out.new) }
 {
     let n = answer(read_named(rt, name, text), out);
     io::writer(rt).write_all(&out[..n.min(out.len())])
@@ -75,8 +88,10 @@ mod tests {
     fn as_far_as_the_buffer_or_the_input_goes(rt: HostRuntime) {
         let mut input: &[u8] = b"abcdefg";
         let mut buffer = [0u8; 4];
-        assert_eq!(rt; read_full(&mut input, &mut buffer).0, b"abcd".as_slice());
-        assert_eq!(rt; read_full(&mut input, &mut buffer).0, b"efg".as_slice());
-        assert_eq!(rt; read_full(&mut input, &mut buffer).0, b"".as_slice());
+        assert_eq!(rt; read_full(&mut input, &mut buffer).0, 4);
+        assert_eq!(rt; buffer, *b"abcd");
+        assert_eq!(rt; read_full(&mut input, &mut buffer).0, 3);
+        assert_eq!(rt; buffer, *b"efgd");
+        assert_eq!(rt; read_full(&mut input, &mut buffer).0, 0);
     }
 }
