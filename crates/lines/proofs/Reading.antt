@@ -11,10 +11,8 @@ use lib.Dec.{eqb, ltb}
 use lib.ListN.{length, drop, take, set, length-drop, length-append, length-set, get_or-append}
 use lib.Seq.{get_or_at, get_or-set_same, get_or-set_other}
 use Rattle.std.specs.Prelude.{Result, Ok, Err}
-use Rattle.std.proofs.lemmas.Result.{IfOk-at_ok}
 use Rattle.finite.proofs.Sums.{extend}
 use Rattle.values.proofs.Fits.{Fits, value_fits}
-use Rattle.values.proofs.Behind.{Behind, value_behind}
 use Rattle.lines.specs.Refusals.{text_number, text_refusal, bad_start, no_start}
 use Rattle.lines.specs.declared.TextRefusal.{TextRefusal}
 use Rattle.text.specs.Text.{fault_number, seek, before, has, value_part, key_is}
@@ -108,19 +106,6 @@ line_keeps text at row l = by (has 10 (drop at text)) (key_is (before 10 (drop a
     by true true e p m = value_fits row (value_part (before 10 (drop at text))) p m l e
     by true false e p m = absurd (not_ok _ _ e)
     by false u e p m = absurd (not_ok _ _ e)
-
--- and has no number behind its count
-pub line_behind : (text : List ℕ) (at : ℕ) (row : Row) (l : Line) → line_at text at row ≡ Ok l → Behind l
-unfolding line_at
-line_behind text at row l = by (has 10 (drop at text)) (key_is (before 10 (drop at text)) row.key)
-  where
-    v : Result Line TextFault
-    v = value_of row (value_part (before 10 (drop at text)))
-
-    by : (t u : Bool) → cond t (cond u v (Err NotDue)) (Err TextEnds) ≡ Ok l → Behind l
-    by true true e = IfOk-at_ok Behind e (value_behind row (value_part (before 10 (drop at text))))
-    by true false e = absurd (not_ok _ _ e)
-    by false u e = absurd (not_ok _ _ e)
 
 -- a refusal's number is that of its case
 pub refusal_number_lem : (number line : ℕ) → 1 ≤ number → number ≤ 4 → text_number (text_refusal number line) ≡ number

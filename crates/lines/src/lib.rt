@@ -118,57 +118,7 @@ fn line_at(text: &[u8], at: usize, row: &Row, read: &mut Line) -> Result<usize, 
     Ok(end + 1)
 }
 
-// A line taken out to a place of the list, number by number, so that it need not be cleared whole for the next one.
-fn take_out(line: &mut Line, place: &mut Line)
-    requires { (i : ℕ) → line.old.count ≤ i → get_or line.old.number i 0 ≡ 0 }
-    ensures { (line.new ≡ no_line) × (place.new ≡ line.old) }
-{
-    *place = text::no_line();
-    place.count = line.count;
-    for i in 0..line.count.min(24) {
-        place.number[i] = line.number[i];
-        line.number[i] = 0;
-    }
-    line.count = 0;
-}
-
-// The line due, by its row, kept where there is room for it. A refused line is not kept, so a line is read beside the list first. The one
-// lent for it holds nothing before and, where the line is good, after.
-fn read_due(
-    text: &[u8],
-    row: &Row,
-    c: Cursor,
-    kept: &mut [Line],
-    line: &mut Line,
-) -> Result<Cursor, TextRefusal>
-    requires lines_bound { (c.lines < 2 ^ 32) × (line.old ≡ no_line) }
-    ensures cursor { (s : Reading) → c ≡ cursor_of s → result ≡ cursors (read_line text.now row.now s) }
-    ensures kept { (s : Reading) (t : Reading) → c ≡ cursor_of s → Kept kept.old s.lines → read_line text.now row.now s ≡ Ok t → Kept kept.new t.lines }
-    ensures lines_bound_2 { IfOk result (λ d. d.lines ≡ c.lines + 1) }
-    ensures elsewhere { (j : ℕ) → j ≢ c.lines → line_in kept.new j ≡ line_in kept.old j }
-    ensures refused { (r : TextRefusal) → result ≡ Err r → (r.line ≡ c.lines + 1) × (kept.new ≡ kept.old) }
-    ensures line { IfOk result (λ d. line.new ≡ no_line) }
-{
-    match line_at(text, c.at, row, line) {
-        Ok(at) => {
-            if c.lines < kept.len() {
-                take_out(line, &mut kept[c.lines]);
-            } else {
-                *line = text::no_line();
-            }
-            Ok(Cursor {
-                at,
-                lines: c.lines + 1,
-            })
-        }
-        Err(fault) => Err(TextRefusal {
-            fault,
-            line: c.lines as u64 + 1,
-        }),
-    }
-}
-
-// The line due, by its row, kept where there is room for it.
+// The line due, by its row, kept where there is room for it. A refused line is not kept, so a line is read beside the list first.
 pub fn read_line(
     text: &[u8],
     row: &Row,
@@ -183,7 +133,21 @@ pub fn read_line(
     ensures refused { (r : TextRefusal) → result ≡ Err r → (r.line ≡ c.lines + 1) × (kept.new ≡ kept.old) }
 {
     let mut line = text::no_line();
-    read_due(text, row, c, kept, &mut line)
+    match line_at(text, c.at, row, &mut line) {
+        Ok(at) => {
+            if c.lines < kept.len() {
+                kept[c.lines] = line;
+            }
+            Ok(Cursor {
+                at,
+                lines: c.lines + 1,
+            })
+        }
+        Err(fault) => Err(TextRefusal {
+            fault,
+            line: c.lines as u64 + 1,
+        }),
+    }
 }
 
 // The lines of one kind of text: which row is due after those read so far.
@@ -217,11 +181,10 @@ pub fn read_more<F: Frame>(
     ensures behind { (c.lines ≤ lines_before result) × ((k : ℕ) → lines_before result ≤ k → line_in kept.new k ≡ line_in kept.old k) }
 {
     let mut d = c;
-    let mut line = text::no_line();
     for i in 0..n {
         let row = frame.row_at(kept, d.lines);
         let at = d.at;
-        d = read_due(text, &row, d, kept, &mut line).map_err(|refusal| Stop { refusal, at })?;
+        d = read_line(text, &row, d, kept).map_err(|refusal| Stop { refusal, at })?;
     }
     Ok(d)
 }

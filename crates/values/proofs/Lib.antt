@@ -3,4 +3,3 @@ pub mod Fits
 pub mod Codes
 pub mod Parts
 pub mod Pairs
-pub mod Behind

@@ -9,7 +9,6 @@ use Rattle.std.specs.Prelude.{Result, Ok, Err}
 use Rattle.std.proofs.Common.{rules}
 use Rattle.std.proofs.lemmas.Result.{err_from_is_err_and, IfOk-at_ok}
 use Rattle.text.specs.declared.Line.{Line}
-use Rattle.text.specs.Rows.{no_line}
 use Rattle.lines.specs.declared.Cursor.{Cursor}
 use Rattle.lines.specs.declared.Stop.{Stop}
 use Rattle.lines.specs.Lines.{Reading, read_by}
@@ -17,20 +16,20 @@ use Rattle.lines.specs.Cells.{line_in, Kept, Stopped, cursor_of, cursors}
 use Rattle.lines.proofs.Reading.{not_ok, same_ok, same_err}
 use Rattle.lines.proofs.Cursors.{placed, placed_by, placed_ok, placed_err}
 use Rattle.lines.proofs.Shown.{Shown, shown_first, shown_next, shown_refused, shown_stopped}
-use Rattle.lines.proofs.read_more.Goals.{After-read_due, After-map_err}
+use Rattle.lines.proofs.read_more.Goals.{After-read_line, After-map_err}
 use Rattle.lines.proofs.read_more.Goals as goal
 
 pub loop-i-init : goal.loop-i-init
-loop-i-init g c = (omega arith, refl, λ s e k. shown_first c.args.text.now (g.F.Frame.due c.args.frame.now) s c.args.c c.args.kept.now e k, λ k h. refl, c.no_line-line.ensures)
+loop-i-init g c = (omega arith, refl, λ s e k. shown_first c.args.text.now (g.F.Frame.due c.args.frame.now) s c.args.c c.args.kept.now e k, λ k h. refl)
 
 -- the row is the one that is due after the lines shown
-row_is : (g : _) (c : After-read_due g) (s : Reading) (shown : Shown c.args.text.now (g.F.Frame.due c.args.frame.now) c.loop-i.i s c.loop-i.d c.loop-i.kept)
+row_is : (g : _) (c : After-read_line g) (s : Reading) (shown : Shown c.args.text.now (g.F.Frame.due c.args.frame.now) c.loop-i.i s c.loop-i.d c.loop-i.kept)
     → c.row_at-row.result ≡ g.F.Frame.due c.args.frame.now shown.reading.lines
 row_is g c s shown = c.row_at-row.ensures shown.reading.lines shown.holds (ap (λ (x : Cursor). x.lines) shown.cursor)
 
 -- the line's outcome has the place where the line begins
-told : (g : _) (c : After-map_err g) → c.map_err.result ≡ placed c.loop-i.d.at c.read_due.result
-told g c = placed_by c.loop-i.d.at c.read_due.result c.map_err.result _ (λ r e p. search rules) c.map_err.ensures.cases
+told : (g : _) (c : After-map_err g) → c.map_err.result ≡ placed c.loop-i.d.at c.read_line.result
+told g c = placed_by c.loop-i.d.at c.read_line.result c.map_err.result _ (λ r e p. search rules) c.map_err.ensures.cases
 
 pub returns-in_err-d : goal.returns-in_err-d
 returns-in_err-d g c =
@@ -39,22 +38,22 @@ returns-in_err-d g c =
     let l = c.loop-i in
     let f = c.in_err-d.field-0.0 in
     let p = err_from_is_err_and c.from_residual.result c.from_residual.ensures.1 in
-    let w = placed_err l.d.at c.read_due.result f (sym c.in_err-d.was ∙ told g (goal.at.returns-in_err-d g c).After-map_err) in
+    let w = placed_err l.d.at c.read_line.result f (sym c.in_err-d.was ∙ told g (goal.at.returns-in_err-d g c).After-map_err) in
     let bad : (s : Reading) → a.c ≡ cursor_of s → Kept a.kept.now s.lines → read_by a.text.now due a.n s ≡ Err f.refusal =
     λ s e k. let shown = l.invariant.2 s e k in
-    shown_refused a.text.now due s l.i l.d l.kept shown c.row_at-row.result (row_is g (goal.at.returns-in_err-d g c).After-read_due s shown)
-    c.read_due.result c.read_due.ensures.cursor f.refusal w.0 a.n c.loop-i-test.true in
-    let q = c.read_due.ensures.refused f.refusal w.0 in
-    let stopped : (s : Reading) → a.c ≡ cursor_of s → Kept a.kept.now s.lines → Stopped a.text.now due s f c.read_due.new.kept =
+    shown_refused a.text.now due s l.i l.d l.kept shown c.row_at-row.result (row_is g (goal.at.returns-in_err-d g c).After-read_line s shown)
+    c.read_line.result c.read_line.ensures.cursor f.refusal w.0 a.n c.loop-i-test.true in
+    let q = c.read_line.ensures.refused f.refusal w.0 in
+    let stopped : (s : Reading) → a.c ≡ cursor_of s → Kept a.kept.now s.lines → Stopped a.text.now due s f c.read_line.new.kept =
     λ s e k. let shown = l.invariant.2 s e k in
-    shown_stopped a.text.now due s l.i l.d l.kept shown c.row_at-row.result (row_is g (goal.at.returns-in_err-d g c).After-read_due s shown)
-    c.read_due.result c.read_due.ensures.cursor f w.0 w.1 c.read_due.new.kept q in
+    shown_stopped a.text.now due s l.i l.d l.kept shown c.row_at-row.result (row_is g (goal.at.returns-in_err-d g c).After-read_line s shown)
+    c.read_line.result c.read_line.ensures.cursor f w.0 w.1 c.read_line.new.kept q in
     rw (p.1, p.2) (record {
       cursor = λ s e k. ap cursors (sym (bad s e k));
       kept = λ s t e k h. absurd (not_ok _ _ (sym (bad s e k) ∙ h));
       lines_bound = tt;
       lines_most = omega (arith, q.0, l.invariant.0, c.loop-i-test.true);
-      refused = λ s r e k h. subst (λ (x : Stop). Stopped a.text.now due s x c.read_due.new.kept) (same_err _ _ h) (stopped s e k);
+      refused = λ s r e k h. subst (λ (x : Stop). Stopped a.text.now due s x c.read_line.new.kept) (same_err _ _ h) (stopped s e k);
       behind = (omega (arith, q.0, l.invariant.0), λ k h. ap (λ (x : List Line). line_in x k) q.1 ∙ l.invariant.3 k (omega (arith, q.0)));
     })
 
@@ -63,16 +62,15 @@ loop-i-preserved g c =
     let a = c.args in
     let due = g.F.Frame.due c.args.frame.now in
     let l = c.loop-i in
-    let r = c.read_due in
+    let r = c.read_line in
     let w : r.result ≡ Ok c.in_ok-d.d = placed_ok l.d.at r.result c.in_ok-d.d (sym c.in_ok-d.was ∙ told g (goal.at.loop-i-preserved g c).After-map_err) in (
       omega (arith, l.invariant.0, IfOk-at_ok _ w r.ensures.lines_bound_2),
       r.auto.kept ∙ l.invariant.1,
       λ s e k. let shown = l.invariant.2 s e k in
-          shown_next a.text.now due s l.i l.d l.kept shown c.row_at-row.result (row_is g (goal.at.loop-i-preserved g c).After-read_due s shown)
+          shown_next a.text.now due s l.i l.d l.kept shown c.row_at-row.result (row_is g (goal.at.loop-i-preserved g c).After-read_line s shown)
           r.result r.ensures.cursor r.new.kept r.ensures.kept c.in_ok-d.d w,
       λ k h. let n = IfOk-at_ok (λ (d : Cursor). d.lines ≡ l.d.lines + 1) w r.ensures.lines_bound_2 in
           r.ensures.elsewhere k (λ e. omega (arith, n)) ∙ l.invariant.3 k (omega (arith, n)),
-      IfOk-at_ok (λ (d : Cursor). r.new.line ≡ no_line) w r.ensures.line,
     )
 
 pub returns : goal.returns

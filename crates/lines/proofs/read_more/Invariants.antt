@@ -1,7 +1,6 @@
 use Prim.Native.Nat.{ℕ, ◌+◌, ◌≤◌}
 use mathlib.Core.Path.{◌≡◌}
 use lib.ListN.{length}
-use Rattle.text.specs.Rows.{no_line}
 use Rattle.lines.specs.Lines.{Reading}
 use Rattle.lines.specs.Cells.{line_in, Kept, cursor_of}
 use Rattle.lines.proofs.Shown.{Shown}
@@ -13,4 +12,3 @@ invariant-loop-i g l =
     × (length l.kept ≡ length l.initial.kept)
     × ((s : Reading) → l.initial.d ≡ cursor_of s → Kept l.initial.kept s.lines → Shown l.text (g.F.Frame.due l.frame) l.i s l.d l.kept)
     × ((k : ℕ) → l.d.lines ≤ k → line_in l.kept k ≡ line_in l.initial.kept k)
-    × (l.line ≡ no_line)

@@ -10,11 +10,11 @@ use Rattle.text.specs.declared.Line.{Line}
 use Rattle.lines.specs.declared.Cursor.{Cursor}
 use Rattle.lines.specs.Lines.{line_at, place_after, Reading}
 use Rattle.lines.specs.Cells.{Kept, cursor_of}
-use Rattle.lines.proofs.Reading.{kept_on, kept_next, line_behind, same_ok}
+use Rattle.lines.proofs.Reading.{kept_on, kept_next, same_ok}
 use Rattle.lines.proofs.Cursors.{ending_ok, ending_err, read_ok, cursor_next, cursor_refused, none_next}
-use Rattle.lines.proofs.read_due.Goals.{In-Ok, In-Err}
-use Rattle.lines.proofs.read_due.Goals.{then-c-kept, else-c-kept}
-use Rattle.lines.proofs.read_due.Goals as goal
+use Rattle.lines.proofs.read_line.Goals.{In-Ok, In-Err}
+use Rattle.lines.proofs.read_line.Goals.{then-c-kept, else-c-kept}
+use Rattle.lines.proofs.read_line.Goals as goal
 
 -- the line at the reading's place
 read : (c : In-Ok) (s : Reading) → c.args.c ≡ cursor_of s
@@ -24,12 +24,6 @@ read c s e =
     let at : g.c.at ≡ s.at = ap (λ (x : Cursor). x.at) e in
     let r = ending_ok (place_after g.text.now g.c.at) (line_at g.text.now g.c.at g.row.now) c.line_at.new.read c.in-Ok.at (rw c.in-Ok.is at c.line_at.ensures) in
     (rw at at r.0, rw at at r.1, ap (λ (x : Cursor). x.lines) e)
-
-pub take_out-requires : goal.take_out-requires
-take_out-requires c =
-    let g = c.args in
-    line_behind g.text.now g.c.at g.row.now c.line_at.new.read
-    (ending_ok (place_after g.text.now g.c.at) (line_at g.text.now g.c.at g.row.now) c.line_at.new.read c.in-Ok.at (rw c.in-Ok.is at c.line_at.ensures)).0
 
 refused : (c : In-Err) (s : Reading) → c.args.c ≡ cursor_of s → line_at c.args.text.now s.at c.args.row.now ≡ Err c.in-Err.fault
 refused c s e =
@@ -51,7 +45,7 @@ returns-after-c-kept-clause-kept c =
     let n : length s.lines ≡ c.args.c.lines = sym r.2 in
     let all : Kept c.if-c-kept.kept (s.lines ++ (l ∷ [])) =
     elim c.if-c-kept.branch [
-      | then-c-kept w ↦ rw (w.kept-is, w.take_out.ensures.1) (rw n at (kept_next c.args.kept.now s.lines l kept (omega (arith, n, w.if-c-kept.true))))
+      | then-c-kept w ↦ rw (w.kept-is) (rw n at (kept_next c.args.kept.now s.lines l kept (omega (arith, n, w.if-c-kept.true))))
       | else-c-kept w ↦ rw (w.kept-is) (kept_on c.args.kept.now s.lines l kept (omega (arith, n, w.if-c-kept.false)))
     ] in
     subst (λ (x : List Line). Kept c.if-c-kept.kept x) (sym is) all
