@@ -64,7 +64,8 @@ pub fn read_or_tell<R: Files + Eprint + Alloc>(
     Ok(Some(text))
 }
 
-// Prints what a function writes into a lent buffer for the bytes of a file; it gives how many these are.
+// Prints what a function writes into a lent buffer for the bytes of a file; it gives how many these are, which are no
+// more than the buffer has room for.
 pub fn print_answer<R: Files + Print, F: FnOnce(&[u8], &mut [u8]) -> usize>(
     rt: &R,
     name: &str,
@@ -72,12 +73,14 @@ pub fn print_answer<R: Files + Print, F: FnOnce(&[u8], &mut [u8]) -> usize>(
     out: &mut [u8],
     answer: F,
 ) -> io::Result<()>
-    requires { F.IsAlwaysCallable answer }
+    requires callable { F.IsAlwaysCallable answer }
+    requires fits { (asked : Bor (List ℕ)) (lent left : MutBor (List ℕ)) (n : ℕ)
+        → length left.now ≡ length out.old → F.post answer asked lent n left → n ≤ length out.old }
     ensures { (asked : Bor (List ℕ)) × (lent left : MutBor (List ℕ)) × (n : ℕ) × F.post answer asked lent n left
         × (length asked.now ≤ length text.old) × (lent.now ≡ out.old) × (left.now ≡ out.new) }
 {
     let n = answer(read_named(rt, name, text), out);
-    io::writer(rt).write_all(&out[..n.min(out.len())])
+    io::writer(rt).write_all(&out[..n])
 }
 
 #[cfg(test)]
