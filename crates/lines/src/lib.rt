@@ -4,7 +4,6 @@
 ghost use Rattle.std.specs.Prelude.{◌≡◌, ◌≢◌, ℕ, List, length, get_or, ◌+◌, ◌^◌, ◌≤◌, ◌<◌, cond, IfOk, Ok, Err};
 ghost use Rattle.text.specs.declared.Row.{Row};
 ghost use Rattle.text.specs.declared.Line.{Line};
-ghost use Rattle.text.specs.Rows.{no_line};
 ghost use Rattle.lines.specs.Lines.{Reading, read_line, read_by, line_at, place_after};
 ghost use Rattle.lines.specs.Cells.{line_in, Kept, Stopped, cursor_of, cursors, refusals, lines_before, lent, ending};
 ghost use Rattle.lines.specs.Refusals.{text_number, text_refusal, bad_start, no_start};
@@ -103,7 +102,6 @@ pub fn start_in(text: &[u8], start: u64) -> Result<usize, TextRefusal>
 
 // The line at a place, by its row, and the place behind it: it is cut out of the text up to its LF, and its value out of the line.
 fn line_at(text: &[u8], at: usize, row: &Row, read: &mut Line) -> Result<usize, TextFault>
-    requires { read.old ≡ no_line }
     ensures { lent result read.new ≡ ending (place_after text.now at) (line_at text.now at row.now) }
 {
     let end = text::find(text, at, b'\n');
@@ -114,7 +112,7 @@ fn line_at(text: &[u8], at: usize, row: &Row, read: &mut Line) -> Result<usize, 
     if !text::key_is(line, row.key) {
         return Err(TextFault::NotDue);
     }
-    values::read_into(text::value_of(line), row, read)?;
+    values::read_value(text::value_of(line), row, read)?;
     Ok(end + 1)
 }
 

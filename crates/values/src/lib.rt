@@ -88,20 +88,12 @@ fn rising(line: &Line) -> bool
     true
 }
 
-// A value by its row: a word, blank, or numbers in their order. After a fault the line holds nothing that counts.
+// A value by its row: a word, blank, or numbers in their order. After a fault the line holds nothing that counts. It looks at the row's
+// fields in turn, since a row has one shape for all lines (`Row`).
 pub fn read_value(value: &[u8], row: &Row, line: &mut Line) -> Result<(), TextFault>
     ensures { into result line.new ≡ value_of row.now value.now }
 {
     *line = text::no_line();
-    read_into(value, row, line)
-}
-
-// The same, into a line that holds nothing already and is not cleared once more, 200 bytes for each line of a text. It looks at the row's
-// fields in turn, since a row has one shape for all lines (`Row`).
-pub fn read_into(value: &[u8], row: &Row, line: &mut Line) -> Result<(), TextFault>
-    requires { line.old ≡ no_line }
-    ensures { into result line.new ≡ value_of row.now value.now }
-{
     if row.parts == 0 {
         return if text::word_is(value, row.word) {
             Ok(())

@@ -8,13 +8,13 @@ use Rattle.text.specs.declared.TextFault.TheVariants.{OfferOrder}
 use Rattle.values.specs.Values.{into, value_of, checked, ordered}
 use borrow.Author.Tests.{eq-eqb, ne_eqb}
 use mathlib.Core.Path.{◌≡◌, ap, sym, ◌∙◌}
-use Rattle.values.proofs.read_into.Goals.{After-numbers, In_ok-numbers}
-use Rattle.values.proofs.read_into.Goals.{else-row-2-via-then-row-2+else-not-rising, else-row-2-via-else-row-2}
-use Rattle.values.proofs.read_into.Goals as goal
+use Rattle.values.proofs.read_value.Goals.{After-numbers, In_ok-numbers}
+use Rattle.values.proofs.read_value.Goals.{else-row-2-via-then-row-2+else-not-rising, else-row-2-via-else-row-2}
+use Rattle.values.proofs.read_value.Goals as goal
 
 pub returns-then-word_is : goal.returns-then-word_is
 unfolding value_of
-returns-then-word_is c = simp (eq-eqb _ _ c.if-row-eq0.true, sym c.word_is.ensures ∙ c.if-word_is.true) (ap {B = Result Line TextFault} (λ (x : Line). Ok x) c.requires)
+returns-then-word_is c = simp (eq-eqb _ _ c.if-row-eq0.true, sym c.word_is.ensures ∙ c.if-word_is.true) (ap {B = Result Line TextFault} (λ (x : Line). Ok x) c.no_line.ensures)
 
 pub returns-else-word_is : goal.returns-else-word_is
 unfolding value_of
@@ -23,7 +23,7 @@ returns-else-word_is c = simp (eq-eqb _ _ c.if-row-eq0.true, sym c.word_is.ensur
 pub returns-then-row : goal.returns-then-row
 unfolding value_of
 returns-then-row c =
-    simp (ne_eqb _ _ c.if-row-eq0.false, sym c.is_empty.ensures ∙ c.if-is_empty.true, c.if-row.true) (ap {B = Result Line TextFault} (λ (x : Line). Ok x) c.requires)
+    simp (ne_eqb _ _ c.if-row-eq0.false, sym c.is_empty.ensures ∙ c.if-is_empty.true, c.if-row.true) (ap {B = Result Line TextFault} (λ (x : Line). Ok x) c.no_line.ensures)
 
 pub returns-else-row : goal.returns-else-row
 unfolding value_of
