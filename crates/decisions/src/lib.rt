@@ -68,8 +68,8 @@ pub struct CommitmentChange {
 }
 
 // What an accepted settle, restate or void comes to: its hour and the text place, how many postings it appends, and
-// whether the hour is settled, its energies and amounts after it. A void has these too, all 0: the three calls are
-// stored and posted in one way.
+// whether the hour is settled, its energies and amounts after it. A void has energies and amounts too, all 0: the three
+// calls are stored and posted in one way.
 #[derive(Clone, Copy)]
 pub struct HourChange {
     pub hour: u64,

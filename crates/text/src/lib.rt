@@ -50,10 +50,11 @@ pub struct Row {
     pub blank: bool,
     // whether it is pairs whose first numbers rise and whose second never fall
     pub order: bool,
+    // numbers in the value, at most; it stands with the other small fields, since a row with a gap behind it was copied
+    // slower
+    pub most: u8,
     // numbers in a group, joined by ':'; groups are joined by ','
     pub parts: usize,
-    // numbers in the value, at most
-    pub most: u8,
     pub low: [u64; 4],
     pub high: [u64; 4],
 }
