@@ -9,9 +9,9 @@ use std::io::{Read, Write};
 use std::rt::Files;
 use std::{fs, io};
 
-// Reads until the buffer is full, the input ends or a read fails. Gives how many bytes it put at the buffer's start, and
-// the error of the read that failed. The buffer stands beside the number, since a slice of it would say nothing of the
-// buffer after the loan.
+// Reads until the buffer is full, the input ends or a read fails. Gives how many bytes it put at the buffer's start,
+// and the error of the read that failed. The buffer stands beside the number, since a slice of it would say nothing of
+// the buffer after the loan.
 pub fn read_full<R: Read>(from: &mut R, buffer: &mut [u8]) -> (usize, Option<io::Error>)
     ensures within { result.0 ≤ length buffer.new }
     ensures bytes { Consumes (R.remaining from.old) (R.remaining from.new) (take result.0 buffer.new) }
@@ -43,8 +43,8 @@ pub fn read_named<'b, R: Files>(rt: &R, name: &str, buffer: &'b mut [u8]) -> &'b
 }
 
 // The bytes of a file, at most so many, or up to a read that fails; of one that cannot be opened none, and the error
-// output says why. The room for them is made once the file is open. Apart from `read_named`, which needs no error output:
-// one function would give both the error, and each caller would match on it.
+// output says why. The room for them is made once the file is open. Apart from `read_named`, which needs no error
+// output: one function would give both the error, and each caller would match on it.
 pub fn read_or_tell<R: Files + Eprint + Alloc>(
     rt: &R,
     name: &str,
