@@ -6,7 +6,7 @@ use std::rt::Files;
 use std::{env, io};
 
 fn file_of<R: Files + Eprint + Alloc, W: Write>(rt: &R, out: &mut W, name: &str) -> io::Result<()> {
-    let Some(text) = file_bytes::read_or_tell(rt, name, 70000)? else {
+    let Some(text) = file_bytes::read_vec_or_tell(rt, name, 70000)? else {
         return Ok(());
     };
     writeln!(out, "{name}")?;

@@ -75,13 +75,13 @@ fn main(rt: HostRuntime) -> io::Result<()> {
     let mut out = BufWriter::new(rt.alloc(), io::writer(&rt))?;
     for name in &names {
         let name = name.as_str();
-        if let Some(text) = file_bytes::read_or_tell(&rt, name, 65537)? {
+        if let Some(text) = file_bytes::read_vec_or_tell(&rt, name, 65537)? {
             put_readings(&mut out, Day { name, text: &text })?;
         }
     }
     for name in &names {
         let name = name.as_str();
-        if let Some(text) = file_bytes::read_or_tell(&rt, name, 65537)? {
+        if let Some(text) = file_bytes::read_vec_or_tell(&rt, name, 65537)? {
             put_statement(&mut out, Day { name, text: &text })?;
         }
     }

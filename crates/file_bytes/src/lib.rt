@@ -1,4 +1,4 @@
-// Files read into a lent buffer.
+// Files read into a lent buffer, or into room that is made for them.
 #![tactic(auto)]
 
 ghost use Rattle.std.specs.Prelude.{◌≡◌, ℕ, ◌<◌, ◌≤◌, List, length, take, vec_len, None, IfSome, IfOk};
@@ -42,10 +42,29 @@ pub fn read_named<'b, R: Files>(rt: &R, name: &str, buffer: &'b mut [u8]) -> &'b
     }
 }
 
-// The bytes of a file, at most so many, or up to a read that fails; of one that cannot be opened none, and the error
-// output says why. The room for them is made once the file is open. Apart from `read_named`, which needs no error
-// output: one function would give both the error, and each caller would match on it.
-pub fn read_or_tell<R: Files + Eprint + Alloc>(
+// The bytes of a file, likewise; of one that cannot be opened none, and the error output says why. Apart from
+// `read_named`, which needs no error output: one function would give both the error, and each caller would match on it.
+pub fn read_or_tell<'b, R: Files + Eprint>(
+    rt: &R,
+    name: &str,
+    buffer: &'b mut [u8],
+) -> io::Result<Option<&'b [u8]>>
+    ensures { IfOk result (λ read. IfSome read (λ text. length text.now ≤ length buffer.old)) }
+{
+    match fs::open(rt, name) {
+        Ok(mut file) => {
+            let (n, _error) = read_full(&mut file, buffer);
+            Ok(Some(&buffer[..n]))
+        }
+        Err(error) => {
+            eprintln!(rt; "{name}: {error}")?;
+            Ok(None)
+        }
+    }
+}
+
+// Likewise, at most so many bytes, for a caller with a heap: the room for them is made once the file is open.
+pub fn read_vec_or_tell<R: Files + Eprint + Alloc>(
     rt: &R,
     name: &str,
     most: usize,
@@ -86,7 +105,8 @@ pub fn print_answer<R: Files + Print, F: FnOnce(&[u8], &mut [u8]) -> usize>(
 
 #[cfg(test)]
 mod tests {
-    use super::read_full;
+    use super::{read_full, read_or_tell};
+    use std::fs;
 
     #[test]
     fn as_far_as_the_buffer_or_the_input_goes(rt: HostRuntime) {
@@ -97,5 +117,17 @@ mod tests {
         assert_eq!(rt; read_full(&mut input, &mut buffer).0, 3);
         assert_eq!(rt; buffer, *b"efgd");
         assert_eq!(rt; read_full(&mut input, &mut buffer).0, 0);
+    }
+
+    #[test]
+    fn a_file_is_read_into_the_buffer_and_one_that_is_absent_is_told(rt: HostRuntime) {
+        let mut buffer = [0u8; 4];
+        assert!(rt; matches!(read_or_tell(&rt, "absent.txt", &mut buffer), Ok(None)));
+        for (text, bytes) in [("abc", b"abc".as_slice()), ("abcdefg", b"abcd".as_slice())] {
+            assert!(rt; fs::write(&rt, "present.txt", text).is_ok());
+            let read = read_or_tell(&rt, "present.txt", &mut buffer);
+            assert!(rt; matches!(read, Ok(Some(found)) if found == bytes));
+        }
+        assert!(rt; fs::remove_file(&rt, "present.txt").is_ok());
     }
 }
