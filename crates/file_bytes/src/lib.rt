@@ -44,12 +44,15 @@ pub fn read_named<'b, R: Files>(rt: &R, name: &str, buffer: &'b mut [u8]) -> &'b
 
 // The bytes of a file, likewise; of one that cannot be opened none, and the error output says why. Apart from
 // `read_named`, which needs no error output: one function would give both the error, and each caller would match on it.
+// The promise names an open file before and after the reading, so that no other bytes of the buffer pass for its own.
 pub fn read_or_tell<'b, R: Files + Eprint>(
     rt: &R,
     name: &str,
     buffer: &'b mut [u8],
 ) -> io::Result<Option<&'b [u8]>>
-    ensures { IfOk result (λ read. IfSome read (λ text. length text.now ≤ length buffer.old)) }
+    ensures within { IfOk result (λ read. IfSome read (λ text. length text.now ≤ length buffer.old)) }
+    ensures bytes { IfOk result (λ read. IfSome read (λ text. (before after : R.File)
+        × Consumes (R.File.remaining before) (R.File.remaining after) text.now)) }
 {
     match fs::open(rt, name) {
         Ok(mut file) => {
