@@ -44,7 +44,7 @@ pub fn read_named<'b, R: Files>(rt: &R, name: &str, buffer: &'b mut [u8]) -> &'b
 
 // The bytes of a file, likewise; of one that cannot be opened none, and the error output says why. Apart from
 // `read_named`, which needs no error output: one function would give both the error, and each caller would match on it.
-// The promise names an open file before and after the reading, so that no other bytes of the buffer pass for its own.
+// By `bytes` what it gives lies between two states of open files, so that the rest of the buffer cannot pass for it.
 pub fn read_or_tell<'b, R: Files + Eprint>(
     rt: &R,
     name: &str,
@@ -123,7 +123,7 @@ mod tests {
     }
 
     #[test]
-    fn a_file_is_read_into_the_buffer_and_one_that_is_absent_is_told(rt: HostRuntime) {
+    fn a_file_is_read_into_the_buffer_and_of_an_absent_one_none(rt: HostRuntime) {
         let mut buffer = [0u8; 4];
         assert!(rt; matches!(read_or_tell(&rt, "absent.txt", &mut buffer), Ok(None)));
         for (text, bytes) in [("abc", b"abc".as_slice()), ("abcdefg", b"abcd".as_slice())] {
